@@ -1,0 +1,11 @@
+pub mod Rights
+pub mod Commuting
+pub mod Thin
+pub mod Fit
+pub mod Indices
+pub mod Modulus
+pub mod Made
+pub mod Power
+pub mod Dickson
+pub mod Refusals
+pub mod Figures
