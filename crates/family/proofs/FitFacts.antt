@@ -12,7 +12,7 @@ use Rattle.family.proofs.Tables.{allBelow, at-each, agree, agreed}
 use Rattle.family.proofs.ThinFacts.{thin-like, thin-empty, thin-single}
 
 -- the byte 2^k stands for the set of right k alone
-alone : (k j : ℕ) → k < 8 → j < 8 → has (2 ^ k) j ≡ eqb j k
+pub alone : (k j : ℕ) → k < 8 → j < 8 → has (2 ^ k) j ≡ eqb j k
 alone k j p q =
     agreed (has (2 ^ k) j) (eqb j k)
     (at-each (λ i. agree (has (2 ^ k) i) (eqb i k)) 8 (at-each (λ h. allBelow (λ i. agree (has (2 ^ h) i) (eqb i h)) 8) 8 refl k p) j q)

@@ -19,10 +19,6 @@ pub thin-more : (f : ℕ → ℕ → ℕ) (M : ℕ → Bool) (k v : ℕ) → thi
 unfolding thinBelow
 thin-more f M k v = refl
 
-pub thin-all : (f : ℕ → ℕ → ℕ) (M : ℕ → Bool) (v : ℕ) → thin f v M ≡ thinBelow f M 8 v
-unfolding thin
-thin-all f M v = refl
-
 -- sets with the same rights thin alike
 below-like : (f : ℕ → ℕ → ℕ) (M M′ : ℕ → Bool) (v i : ℕ) → ((k : ℕ) → k < i → M k ≡ M′ k) → thinBelow f M i v ≡ thinBelow f M′ i v
 below-like f M M′ v zero e = thin-none f M v ∙ sym (thin-none f M′ v)
@@ -33,7 +29,7 @@ below-like f M M′ v (suc i) e =
     ∙ sym (thin-more f M′ i v)
 
 pub thin-like : (f : ℕ → ℕ → ℕ) (M M′ : ℕ → Bool) (v : ℕ) → ((k : ℕ) → k < 8 → M k ≡ M′ k) → thin f v M ≡ thin f v M′
-thin-like f M M′ v e = thin-all f M v ∙ below-like f M M′ v 8 e ∙ sym (thin-all f M′ v)
+thin-like f M M′ v e = below-like f M M′ v 8 e
 
 -- the set without any right
 below-empty : (f : ℕ → ℕ → ℕ) (v i : ℕ) → thinBelow f none i v ≡ v
@@ -49,10 +45,10 @@ below-single f v k (suc i) =
     ∙ grind (arith, tells)
 
 pub thin-empty : (f : ℕ → ℕ → ℕ) (v : ℕ) → thin f v none ≡ v
-thin-empty f v = thin-all f none v ∙ below-empty f v 8
+thin-empty f v = below-empty f v 8
 
 pub thin-single : (f : ℕ → ℕ → ℕ) (v k : ℕ) → k < 8 → thin f v (λ j. eqb j k) ≡ f k v
-thin-single f v k p = thin-all f (λ j. eqb j k) v ∙ below-single f v k 8 ∙ cond-true (ltb k 8) (f k v) v (lt-ltb k 8 p)
+thin-single f v k p = below-single f v k 8 ∙ cond-true (ltb k 8) (f k v) v (lt-ltb k 8 p)
 
 module _ (n : ℕ) (f : ℕ → ℕ → ℕ) (family : Commuting n f) where
   once-below : (M : ℕ → Bool) (k v : ℕ) → k < 8 → v < n → once f M k v < n
@@ -110,7 +106,6 @@ module _ (n : ℕ) (f : ℕ → ℕ → ℕ) (family : Commuting n f) where
       ∙ sym (thin-more f M i (thinBelow f M′ 8 v))
 
   pub thin-laws : ThinLaws n f
-  unfolding thin
   thin-laws = record {
     stays-below = λ v M h. below-below M v 8 (omega arith) h;
     by-none = thin-empty f;
@@ -131,7 +126,7 @@ module _ (n : ℕ) (f : ℕ → ℕ → ℕ) (family : Commuting n f) where
       answered k w q r = grind (arith, tells)
 
   pub thin-asked : (v : ℕ) (M : ℕ → Bool) → v < n → thin (asked n f) v M ≡ thin f v M
-  thin-asked v M h = thin-all (asked n f) M v ∙ below-asked M v 8 (omega arith) h ∙ sym (thin-all f M v)
+  thin-asked v M h = below-asked M v 8 (omega arith) h
 
 -- asked for a number that is not below n, a family answers with that number, and so does thinning by its answers
 below-unasked : (n : ℕ) (f : ℕ → ℕ → ℕ) (M : ℕ → Bool) (v i : ℕ) → n ≤ v → thinBelow (asked n f) M i v ≡ v
@@ -144,4 +139,4 @@ below-unasked n f M v (suc i) h =
     stays false = refl
 
 pub thin-unasked : (n : ℕ) (f : ℕ → ℕ → ℕ) (M : ℕ → Bool) (v : ℕ) → n ≤ v → thin (asked n f) v M ≡ v
-thin-unasked n f M v h = thin-all (asked n f) M v ∙ below-unasked n f M v 8 h
+thin-unasked n f M v h = below-unasked n f M v 8 h

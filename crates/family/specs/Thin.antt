@@ -14,7 +14,7 @@ thinBelow f M zero v = v
 thinBelow f M (suc k) v = once f M k (thinBelow f M k v)
 
 -- v thinned by the set M
-unfoldable pub thin : (ℕ → ℕ → ℕ) → ℕ → (ℕ → Bool) → ℕ
+abbrev pub thin : (ℕ → ℕ → ℕ) → ℕ → (ℕ → Bool) → ℕ
 thin f v M = thinBelow f M 8 v
 
 -- no right is in both sets

@@ -2,7 +2,7 @@ use mathlib.Core.Path.{_≡_}
 use Rattle.family.specs.Commuting.{asked}
 use Rattle.family.specs.Rights.{has}
 use Rattle.family.specs.Thin.{thinBelow}
-use Rattle.family.proofs.thinning.thin_number.Given as given
+use Rattle.family.proofs.thinning.steps.Given as given
 
 abbrev pub Inv-loop-k : given.InvT-loop-k
 Inv-loop-k g l =

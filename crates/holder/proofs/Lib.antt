@@ -1,0 +1,5 @@
+pub mod Spelled
+pub mod ByteFacts
+pub mod BitFacts
+pub mod RoundTrips
+pub mod ThinningFacts

@@ -1,0 +1,5 @@
+pub mod Bytes
+pub mod Layout
+pub mod Dropping
+pub mod Laws
+pub mod Refusals
