@@ -1,5 +1,5 @@
 -- Giving rights up, in a family: every drop is a thinning, and two thinnings are one. The laws follow from these.
-use mathlib.Core.Path.{_≡_, refl, sym, ap, _∙_}
+use mathlib.Core.Path.{_≡_, refl, sym, ap, subst, _∙_}
 use mathlib.Core.Bool.{Bool, true, false, not, cond, _&&_, _||_}
 use mathlib.Core.List.{List, [], _∷_}
 use mathlib.Core.Logic.{inl, inr}
@@ -12,6 +12,7 @@ use Rattle.std.specs.declared.result.Result.{Result}
 use Rattle.std.specs.declared.result.Result.the-variants.{Ok, Err}
 use Rattle.std.proofs.shelf.Elements.{all-kept-by}
 use Rattle.std.proofs.shelf.Tests.{lt-ltb, le-ltb, cases-lt, cases-bool, eqb-true, false≢true}
+use Rattle.std.specs.Vec.{made}
 use Rattle.std.specs.shelf.Lists.{All}
 use Rattle.refusal.specs.Chains.{unless, andThen}
 use Rattle.family.specs.Rights.{has, missing, none, union}
@@ -21,7 +22,7 @@ use Rattle.family.proofs.Tables.{at-each}
 use Rattle.family.proofs.ThinFacts.{thin-like, thin-empty, thin-single, thin-laws}
 use Rattle.holder.specs.Bytes.{number, bytesOf}
 use Rattle.holder.specs.Dropping.{checkNumber, withRights, allBut, without, dropped, lost, kept, thinned}
-use Rattle.holder.specs.Laws.{droppedEach, outside, AnyOrder, TwiceIsOnce, OneByOne}
+use Rattle.holder.specs.Laws.{droppedEach, outside, AnyOrder, TwiceIsOnce, OneByOne, Genuine, StaysGenuine}
 use Rattle.holder.specs.declared.capability.Capability.{Capability}
 use Rattle.holder.specs.declared.refusals.HolderRefusal.{HolderRefusal}
 use Rattle.holder.specs.declared.refusals.HolderRefusal.the-variants.{NoSuchRight, CheckTooLarge}
@@ -215,3 +216,36 @@ module _ (n : ℕ) (f : ℕ → ℕ → ℕ) (family : Commuting n f) where
 
   pub one-by-one : (c : Capability) (m : ℕ) → Whole c → m < 256 → OneByOne n f c m
   one-by-one c m w q = λ h. ap (thinned n f c) (sym (mask-outside m q)) ∙ sym (each-dropped (outside m) c w (rights-outside m) h)
+
+  -- a genuine check, put through the functions of the lost rights, is the genuine check for those that are left
+  kept-genuine : (c : Capability) (m s : ℕ) → m < 256 → s < n → Genuine f s c → Genuine f s (kept f c m)
+  kept-genuine c m s q h e =
+      let r : ℕ = c .rights .bits in
+      let below : checkNumber c < n = rw e (thin-laws n f family .stays-below s (missing r) h) in
+      kept-number c m below
+      ∙ ap (λ x. thin f x (has (lost r m))) e
+      ∙ thin-laws n f family .by-both s (missing r) (has (lost r m)) h (λ k p t. has-lost r m k q p ∙ held (has r k) (has m k) t)
+      ∙ thin-like f (union (missing r) (has (lost r m))) (missing (bitAnd r m)) s
+      (λ k p. ap (λ b. missing r k || b) (has-lost r m k q p) ∙ left (has r k) (has m k) ∙ ap not (sym (has-and r m k)))
+    where
+      held : (a b : Bool) → not a ≡ true → (a && not b) ≡ false
+      held true b t = absurd (false≢true t)
+      held false b t = refl
+
+      left : (a b : Bool) → (not a || (a && not b)) ≡ not (a && b)
+      left true b = refl
+      left false b = refl
+
+  pub thinned-genuine : (c : Capability) (m : ℕ) → m < 256 → StaysGenuine n f c (thinned n f c m)
+  thinned-genuine c m q = λ s h e. elim (cases-lt (checkNumber c) n) [
+    | inl p ↦ subst (λ r. made r (Genuine f s)) (sym (thinned-ok c m p)) (kept-genuine c m s q h e)
+    | inr p ↦ subst (λ r. made r (Genuine f s)) (sym (thinned-err c m p)) tt
+  ]
+
+  pub dropped-genuine : (c : Capability) (k : ℕ) → Whole c → StaysGenuine n f c (dropped n f c k)
+  dropped-genuine c k w = λ s h e. elim (cases-lt k 8) [
+    | inl p ↦ subst (λ r. made r (Genuine f s)) (sym (dropped-thins c k w p)) (thinned-genuine c (allBut k) (omega arith) s h e)
+    | inr p ↦
+        subst (λ b. made (unless b NoSuchRight (unless (ltb (checkNumber c) n) CheckTooLarge (Ok (without f c k)))) (Genuine f s))
+        (sym (le-ltb k 8 p)) tt
+  ]

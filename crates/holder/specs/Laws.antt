@@ -6,8 +6,10 @@ use lib.Bits.{bitAnd}
 use Rattle.std.specs.declared.result.Result.{Result}
 use Rattle.std.specs.declared.result.Result.the-variants.{Ok}
 use Rattle.std.specs.shelf.Lists.{kept-by}
+use Rattle.std.specs.Vec.{made}
 use Rattle.refusal.specs.Chains.{andThen}
 use Rattle.family.specs.Rights.{missing}
+use Rattle.family.specs.Thin.{thin}
 use Rattle.holder.specs.Dropping.{checkNumber, dropped, thinned}
 use Rattle.holder.specs.declared.capability.Capability.{Capability}
 use Rattle.holder.specs.declared.refusals.HolderRefusal.{HolderRefusal}
@@ -32,3 +34,11 @@ TwiceIsOnce n f c mask = (m : ℕ) → m < 256 → andThen (thinned n f c mask) 
 -- thinning, where it is not refused, is dropping one by one each right that the mask does not keep
 abbrev pub OneByOne : ℕ → (ℕ → ℕ → ℕ) → Capability → ℕ → Type 0
 OneByOne n f c mask = checkNumber c < n → thinned n f c mask ≡ droppedEach n f c (outside mask)
+
+-- the check is what whoever knows the secret s computes for these rights: s thinned by the missing ones
+abbrev pub Genuine : (ℕ → ℕ → ℕ) → ℕ → Capability → Type 0
+Genuine f s c = checkNumber c ≡ thin f s (missing (c .rights .bits))
+
+-- what is left of a genuine capability is genuine too
+abbrev pub StaysGenuine : ℕ → (ℕ → ℕ → ℕ) → Capability → Result Capability HolderRefusal → Type 0
+StaysGenuine n f c r = (s : ℕ) → s < n → Genuine f s c → made r (Genuine f s)

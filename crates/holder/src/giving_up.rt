@@ -1,7 +1,10 @@
 //! Giving rights up: dropping one right, and thinning to a mask.
-ghost use Prim.Native.Nat.{ℕ, _<_};
+ghost use Rattle.holder.specs.declared.refusals.HolderRefusal.the-variants.{CheckTooLarge};
+ghost use Rattle.refusal.specs.Chains.{unless};
+ghost use Rattle.std.specs.declared.result.Result.the-variants.{Ok};
+ghost use lib.Dec.{ltb};
 ghost use Rattle.holder.specs.Dropping.{checkNumber, dropped, thinned};
-ghost use Rattle.holder.specs.Laws.{AnyOrder, OneByOne, TwiceIsOnce};
+ghost use Rattle.holder.specs.Laws.{AnyOrder, OneByOne, StaysGenuine, TwiceIsOnce};
 ghost use mathlib.Core.Path.{_≡_};
 use crate::capability::Capability;
 use crate::capability::Check;
@@ -10,6 +13,16 @@ use crate::capability::Rights;
 use crate::refusals::HolderRefusal;
 use family::CommutingFamily;
 use family::thin_number;
+
+/// Refused unless the number of a check is below the family's modulus.
+fn judged<F: CommutingFamily>(family: &F, number: u64) -> Result<(), HolderRefusal>
+    ensures { λ r. ⌜ r ≡ unless (ltb number (modulusOf (now (family .entry)))) CheckTooLarge (Ok tt) ⌝ }
+{
+    if number >= family.modulus() {
+        return Err(HolderRefusal::CheckTooLarge);
+    }
+    Ok(())
+}
 
 /// The capability without right k; `number` is that of its check.
 fn without_right<F: CommutingFamily>(
@@ -24,9 +37,7 @@ fn without_right<F: CommutingFamily>(
     if k > 7 {
         return Err(HolderRefusal::NoSuchRight);
     }
-    if number >= family.modulus() {
-        return Err(HolderRefusal::CheckTooLarge);
-    }
+    judged(family, number)?;
     let held = capability.rights.bits;
     if (held >> k) % 2 != 1 {
         return Ok(capability);
@@ -50,9 +61,7 @@ fn within_mask<F: CommutingFamily>(
     requires { ⌜ number ≡ checkNumber capability ⌝ }
     ensures { λ r. ⌜ r ≡ thinned (modulusOf (now (family .entry))) (functionOf (now (family .entry))) capability mask ⌝ }
 {
-    if number >= family.modulus() {
-        return Err(HolderRefusal::CheckTooLarge);
-    }
+    judged(family, number)?;
     let held = capability.rights.bits;
     let thinned = thin_number(family, number, held & (255 - mask));
     Ok(Capability {
@@ -70,6 +79,7 @@ impl Capability {
         k: u64,
     ) -> Result<Capability, HolderRefusal>
         ensures value { λ r. ⌜ r ≡ dropped (modulusOf (now (family .entry))) (functionOf (now (family .entry))) self k ⌝ }
+        ensures genuine { λ r. ⌜ StaysGenuine (modulusOf (now (family .entry))) (functionOf (now (family .entry))) self r ⌝ }
         ensures order { λ _. ⌜ AnyOrder (modulusOf (now (family .entry))) (functionOf (now (family .entry))) self k ⌝ }
     {
         let number = self.check.number();
@@ -83,6 +93,7 @@ impl Capability {
         mask: Mask,
     ) -> Result<Capability, HolderRefusal>
         ensures value { λ r. ⌜ r ≡ thinned (modulusOf (now (family .entry))) (functionOf (now (family .entry))) self (mask .bits) ⌝ }
+        ensures genuine { λ r. ⌜ StaysGenuine (modulusOf (now (family .entry))) (functionOf (now (family .entry))) self r ⌝ }
         ensures twice { λ _. ⌜ TwiceIsOnce (modulusOf (now (family .entry))) (functionOf (now (family .entry))) self (mask .bits) ⌝ }
         ensures one_by_one { λ _. ⌜ OneByOne (modulusOf (now (family .entry))) (functionOf (now (family .entry))) self (mask .bits) ⌝ }
     {

@@ -14,37 +14,20 @@ use crate::refusals::HolderRefusal;
 fn taken_apart(bytes: &[u8]) -> Result<Capability, HolderRefusal>
     ensures { λ r. ⌜ r ≡ asRead (now (bytes .entry)) ⌝ }
 {
-    let [
-        p0,
-        p1,
-        p2,
-        p3,
-        p4,
-        p5,
-        o0,
-        o1,
-        o2,
-        rights,
-        c0,
-        c1,
-        c2,
-        c3,
-        c4,
-        c5,
-    ] = bytes
-    else {
+    if bytes.len() != 16 {
         return Err(HolderRefusal::WrongLength);
-    };
+    }
+    let check = &bytes[10..16];
     Ok(Capability {
         port: Port {
-            bytes: [*p0, *p1, *p2, *p3, *p4, *p5],
+            bytes: [bytes[0], bytes[1], bytes[2], bytes[3], bytes[4], bytes[5]],
         },
         object: Object {
-            bytes: [*o0, *o1, *o2],
+            bytes: [bytes[6], bytes[7], bytes[8]],
         },
-        rights: Rights { bits: *rights },
+        rights: Rights { bits: bytes[9] },
         check: Check {
-            bytes: [*c0, *c1, *c2, *c3, *c4, *c5],
+            bytes: [check[0], check[1], check[2], check[3], check[4], check[5]],
         },
     })
 }

@@ -7,23 +7,22 @@ use native.Mathlib.Omega.{arith}
 use lib.Dec.{eqb}
 use Rattle.std.proofs.shelf.Tests.{eqb-true, or-cases, and-parts}
 use Rattle.family.specs.Figures.{Figure, Holds, Each, figures, inTurn, powersLead, dicksonLeads, unfitInPowers, unfitInDickson}
-use Rattle.family.specs.Indices.{index}
-use Rattle.family.specs.Power.{power}
-use Rattle.family.specs.Dickson.{dickson}
+use Rattle.family.specs.Power.{powersAt}
+use Rattle.family.specs.Dickson.{dickson, dicksonAt}
 use Rattle.family.proofs.FitFacts.{fit-laws}
 use Rattle.family.proofs.Unmoved.{power-zero, power-one, dickson-zero, dickson-two}
 use Rattle.family.proofs.figures.figures_hold.Needs as need
 
 -- the test that shows a figure: the functions at its own modulus, computed; and for fitness, a number that f_0 leaves as it is
 abbrev shown : Figure → Bool
-shown (powersLead n ks v w) = eqb (inTurn (λ k x. power n (index k) x) ks v) w
-shown (dicksonLeads n ks v w) = eqb (inTurn (λ k x. dickson n (index k) x) ks v) w
+shown (powersLead n ks v w) = eqb (inTurn (powersAt n) ks v) w
+shown (dicksonLeads n ks v w) = eqb (inTurn (dicksonAt n) ks v) w
 shown (unfitInPowers s) = eqb s 0 || eqb s 1
 shown (unfitInDickson s) = eqb s 0 || eqb s 2
 
 holds : (x : Figure) → shown x ≡ true → Holds x
-holds (powersLead n ks v w) t = λ p h. ap (λ m. inTurn (λ k x. power m (index k) x) ks v) h ∙ eqb-true _ w t
-holds (dicksonLeads n ks v w) t = λ d h. ap (λ m. inTurn (λ k x. dickson m (index k) x) ks v) h ∙ eqb-true _ w t
+holds (powersLead n ks v w) t = λ p h. ap (λ m. inTurn (powersAt m) ks v) h ∙ eqb-true _ w t
+holds (dicksonLeads n ks v w) t = λ d h. ap (λ m. inTurn (dicksonAt m) ks v) h ∙ eqb-true _ w t
 holds (unfitInPowers s) t = λ p fit.
     fit-laws _ _ .moved s 0 (omega arith) fit
     (elim (or-cases (eqb s 0) (eqb s 1) t) [ inl e ↦ rw (eqb-true s 0 e) (power-zero (p .modulus .value)) | inr e ↦ rw (eqb-true s 1 e) (power-one (p .modulus .value) (p .modulus .range .0)) ])

@@ -1,10 +1,11 @@
-use mathlib.Core.Path.{_≡_, sym, ap, _∙_}
+use mathlib.Core.Path.{_≡_, sym, ap, subst, _∙_}
 use Prim.Native.Nat.{_<_}
 use borrow.Author.Needs.{needs}
 use Rattle.family.specs.Commuting.{Commuting}
 use Rattle.holder.specs.Bytes.{bytesOf}
 use Rattle.holder.specs.Dropping.{checkNumber}
-use Rattle.holder.proofs.ThinningFacts.{Whole, any-order}
+use Rattle.holder.specs.Laws.{StaysGenuine}
+use Rattle.holder.proofs.ThinningFacts.{Whole, any-order, dropped-genuine}
 use Rattle.holder.proofs.capability.Capability.drop_right.Needs as need
 
 pub returns : need.returns
@@ -16,7 +17,9 @@ returns g c =
     let laws : Commuting n f = record { least = met .least own; most = met .most own; within = met .within own; commutes = met .commutes own } in
     let byte : c .args .self .rights .bits < 256 = search needs in
     let again : bytesOf 6 (checkNumber (c .args .self)) ≡ c .args .self .check .bytes = ap (bytesOf 6) (sym (c .number-number .ensures .value)) ∙ c .number-number .ensures .back in
+    let whole : Whole (c .args .self) = record { byte = byte; again = again } in
     record {
       value = c .without-right .ensures;
-      order = any-order n f laws (c .args .self) (c .args .k) (record { byte = byte; again = again });
+      genuine = subst (StaysGenuine n f (c .args .self)) (sym (c .without-right .ensures)) (dropped-genuine n f laws (c .args .self) (c .args .k) whole);
+      order = any-order n f laws (c .args .self) (c .args .k) whole;
     }

@@ -11,8 +11,8 @@ use Rattle.std.proofs.shelf.Tests.{and-parts, and-from, both-ways, cond-true, e
 use Rattle.text.specs.Hex.{isDigit, digitValue, allHex, hexBytes, readHex}
 use Rattle.text.proofs.Chosen.{unchosen}
 use Rattle.text.proofs.Pairs.{read-written, unread, digit-known, drop-pair, allHex-pair}
-use Rattle.text.proofs.hex.read_hex.Given as given
-use Rattle.text.proofs.hex.read_hex.Needs as need
+use Rattle.text.proofs.hexadecimal.read_hex.Given as given
+use Rattle.text.proofs.hexadecimal.read_hex.Needs as need
 
 pub returns-then-word-ne0 : need.returns-then-word-ne0
 returns-then-word-ne0 g c =

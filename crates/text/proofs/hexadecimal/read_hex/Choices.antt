@@ -3,7 +3,7 @@ use mathlib.Core.List.{_++_}
 use Prim.Native.Nat.{_*_}
 use lib.ListN.{length, take, drop}
 use Rattle.text.specs.Hex.{allHex, hexBytes}
-use Rattle.text.proofs.hex.read_hex.Given as given
+use Rattle.text.proofs.hexadecimal.read_hex.Given as given
 
 abbrev pub Inv-loop-i : given.InvT-loop-i
 Inv-loop-i g l =

@@ -9,7 +9,7 @@ use Rattle.std.proofs.shelf.Edits.{paste-none, paste-more, paste-all}
 use Rattle.text.specs.Hex.{hexText}
 use Rattle.text.proofs.Pairs.{length-hexText, getD-hexText, written-read}
 use Rattle.text.proofs.Room.{room, no-room}
-use Rattle.text.proofs.hex.put_hex.Needs as need
+use Rattle.text.proofs.hexadecimal.put_hex.Needs as need
 
 pub returns-then-at-out : need.returns-then-at-out
 returns-then-at-out c =

@@ -7,6 +7,7 @@ ghost use lib.ListN.{length};
 ghost use mathlib.Core.Bool.{cond};
 ghost use mathlib.Core.List.{List};
 ghost use mathlib.Core.Path.{_≡_};
+use std::fmt;
 
 /// The number that a small hexadecimal digit stands for.
 fn number_of(c: u8) -> Option<u8>
@@ -22,7 +23,8 @@ fn number_of(c: u8) -> Option<u8>
 /// The small hexadecimal digit of a number below 16.
 fn digit_of(n: u8) -> u8
     requires { ⌜ n < 16 ⌝ }
-    ensures { λ r. ⌜ r ≡ digit n ⌝ }
+    ensures value { λ r. ⌜ r ≡ digit n ⌝ }
+    ensures ascii { λ r. ⌜ r < 128 ⌝ }
 {
     if n < 10 { b'0' + n } else { b'a' + (n - 10) }
 }
@@ -64,4 +66,22 @@ pub fn put_hex(out: &mut [u8], at: usize, bytes: &[u8]) -> Option<usize>
         end += 2;
     }
     Some(end)
+}
+
+/// Bytes, shown as `put_hex` writes them.
+#[derive(Clone, Copy)]
+pub struct Hex<'a> {
+    pub bytes: &'a [u8],
+}
+
+pub impl fmt::Display for Hex<'_> as HexDisplay {
+    ghost shown = { λ x. Some (hexText (x .bytes .now)) };
+
+    fn fmt<W: fmt::Write>(&self, f: &mut fmt::Formatter<W>) -> fmt::Result {
+        for b in self.bytes {
+            f.write_char(digit_of(*b / 16) as char)?;
+            f.write_char(digit_of(*b % 16) as char)?;
+        }
+        Ok(())
+    }
 }

@@ -2,7 +2,7 @@ use mathlib.Core.Path.{_≡_}
 use Prim.Native.Nat.{_+_, _*_}
 use lib.Seq.{paste}
 use Rattle.text.specs.Hex.{hexText}
-use Rattle.text.proofs.hex.put_hex.Given as given
+use Rattle.text.proofs.hexadecimal.put_hex.Given as given
 
 abbrev pub Inv-loop-b : given.InvT-loop-b
 Inv-loop-b l =
