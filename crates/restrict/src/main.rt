@@ -24,8 +24,19 @@ A refusal prints its line, 'no NUMBER LAYER PLACE', and ends with status 1:
 ";
 
 /// Takes the four words through, and prints what came of them.
-fn run(rt: &LibcRuntime, letter: &str, modulus: &str, capability: &str, mask: &str) -> Result<(), AnyError> {
-    let answer = restrict_words(letter.as_bytes(), modulus.as_bytes(), capability.as_bytes(), mask.as_bytes());
+fn run(
+    rt: &LibcRuntime,
+    letter: &str,
+    modulus: &str,
+    capability: &str,
+    mask: &str,
+) -> Result<(), AnyError> {
+    let answer = restrict_words(
+        letter.as_bytes(),
+        modulus.as_bytes(),
+        capability.as_bytes(),
+        mask.as_bytes(),
+    );
     match answer {
         Ok(report) => {
             rt.print(report)?;
@@ -36,7 +47,7 @@ fn run(rt: &LibcRuntime, letter: &str, modulus: &str, capability: &str, mask: &s
             Err("refused".into())
         }
         Err(Failure::Misused(misuse)) => {
-            eprintln!(rt, "restrict: {misuse}\n\n{USAGE}")?;
+            eprint!(rt, "restrict: {misuse}\n\n{USAGE}")?;
             Err("misused".into())
         }
     }
@@ -50,10 +61,16 @@ fn main(rt: LibcRuntime) -> Result<(), AnyError> {
             Ok(())
         }
         [_, letter, modulus, capability, mask] => {
-            run(&rt, letter.as_str(), modulus.as_str(), capability.as_str(), mask.as_str())
+            run(
+                &rt,
+                letter.as_str(),
+                modulus.as_str(),
+                capability.as_str(),
+                mask.as_str(),
+            )
         }
         _ => {
-            eprintln!(rt, "{USAGE}")?;
+            eprint!(rt, "{USAGE}")?;
             Err("misused".into())
         }
     }

@@ -5,8 +5,8 @@ ghost use Rattle.refusal.specs.Chains.{refusedAs};
 ghost use Rattle.restriction.specs.Outcome.{answer, outcome};
 ghost use mathlib.Core.Path.{_≡_};
 use crate::report::Report;
-use crate::request::FamilyLetter;
 use crate::request::Failure;
+use crate::request::FamilyLetter;
 use crate::request::Request;
 use crate::words::read_request;
 use family::CommutingFamily;
@@ -47,7 +47,12 @@ pub fn carry_out(request: Request) -> Result<Capability, Refusal>
 }
 
 /// The whole command: four words read, the request carried out, and what there is to report.
-pub fn restrict_words(letter: &[u8], modulus: &[u8], capability: &[u8], mask: &[u8]) -> Result<Report, Failure>
+pub fn restrict_words(
+    letter: &[u8],
+    modulus: &[u8],
+    capability: &[u8],
+    mask: &[u8],
+) -> Result<Report, Failure>
     ensures { λ r. ⌜ r ≡ answer (now (letter .entry)) (now (modulus .entry)) (now (capability .entry)) (now (mask .entry)) ⌝ }
 {
     let request = match read_request(letter, modulus, capability, mask) {

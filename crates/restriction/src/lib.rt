@@ -16,3 +16,6 @@ pub use request::FamilyLetter;
 pub use request::Misuse;
 pub use request::Request;
 pub use words::read_request;
+
+#[cfg(test)]
+mod tests;
