@@ -1,0 +1,3 @@
+pub mod AcceptFacts
+pub mod FillFacts
+pub mod FitnessFacts

@@ -1,0 +1,4 @@
+pub mod LowestFacts
+pub mod Rounds
+pub mod Reading
+pub mod TableFacts
