@@ -1,9 +1,8 @@
-use mathlib.Core.Path.{_≡_, refl, sym, _∙_}
+use mathlib.Core.Path.{_≡_, refl}
 use Prim.Native.Nat.{_*_, _^_, _+_}
 use native.Mathlib.Nat.{pow-suc}
 use native.Mathlib.Numerals.{add-one}
 use native.Mathlib.Omega.{arith}
-use borrow.Author.Needs.{needs}
 use Rattle.family.specs.Commuting.{asked}
 use Rattle.secret.proofs.FillFacts.{fill-first, fill-more}
 use Rattle.secret.proofs.filling.fill.Needs as need

@@ -1,0 +1,4 @@
+pub mod Objects
+pub mod Needs
+pub mod Admission
+pub mod Denials
