@@ -7,7 +7,7 @@ use lib.Dec.{eqb}
 use lib.Pow.{pow-lt, pow-pos}
 use Rattle.family.specs.Rights.{has, none}
 use Rattle.family.specs.Thin.{thin}
-use Rattle.family.specs.Fit.{Fit, FitLaws}
+use Rattle.family.specs.Fit.{FitLaws}
 use Rattle.family.proofs.Tables.{allBelow, at-each, agree, agreed}
 use Rattle.family.proofs.ThinFacts.{thin-like, thin-empty, thin-single}
 

@@ -1,12 +1,12 @@
 -- The laws of thinning, for every family of commuting functions.
 use mathlib.Core.Path.{_≡_, refl, sym, ap, _∙_}
-use mathlib.Core.Bool.{Bool, true, false, cond, _||_, _&&_}
-use Prim.Native.Nat.{ℕ, zero, suc, _+_, _<_, _≤_, _^_}
+use mathlib.Core.Bool.{Bool, true, false, cond, _||_}
+use Prim.Native.Nat.{ℕ, zero, suc, _<_, _≤_}
 use native.Mathlib.Omega.{arith}
 use lib.Dec.{ltb, eqb}
 use Rattle.std.proofs.shelf.Tests.{lt-ltb, cond-true}
 use Rattle.std.proofs.shelf.Ways.{tells}
-use Rattle.family.specs.Rights.{has, none, union}
+use Rattle.family.specs.Rights.{none, union}
 use Rattle.family.specs.Commuting.{Commuting, asked}
 use Rattle.family.specs.Thin.{once, thinBelow, thin, Disjoint, ThinLaws}
 

@@ -1,7 +1,7 @@
 //! Thinning a number by a set of rights, in any family.
 ghost use Prim.Native.Nat.{_<_, _≤_};
-ghost use Rattle.family.specs.Fit.{FitLaws};
 ghost use Rattle.family.specs.Commuting.{asked};
+ghost use Rattle.family.specs.Fit.{FitLaws};
 ghost use Rattle.family.specs.Rights.{has};
 ghost use Rattle.family.specs.Thin.{ThinLaws, once, thin};
 ghost use mathlib.Core.Path.{_≡_};

@@ -3,7 +3,7 @@ use mathlib.Core.Path.{_≡_, refl, sym, ap, subst, _∙_}
 use mathlib.Core.Bool.{Bool, true, false, not, cond, _&&_, _||_}
 use mathlib.Core.List.{List, [], _∷_}
 use mathlib.Core.Logic.{inl, inr}
-use Prim.Native.Nat.{ℕ, _+_, _-_, _^_, _<_, _≤_}
+use Prim.Native.Nat.{ℕ, _-_, _<_, _≤_}
 use native.Mathlib.Nat.{mod-eq-of-lt}
 use native.Mathlib.Omega.{arith}
 use lib.Bits.{bitAnd, and-comm}
@@ -11,7 +11,7 @@ use lib.Dec.{eqb, ltb}
 use Rattle.std.specs.declared.result.Result.{Result}
 use Rattle.std.specs.declared.result.Result.the-variants.{Ok, Err}
 use Rattle.std.proofs.shelf.Elements.{all-kept-by}
-use Rattle.std.proofs.shelf.Tests.{lt-ltb, le-ltb, cases-lt, cases-bool, eqb-true, false≢true}
+use Rattle.std.proofs.shelf.Tests.{lt-ltb, le-ltb, cases-lt, eqb-true, false≢true}
 use Rattle.std.specs.Vec.{made}
 use Rattle.std.specs.shelf.Lists.{All}
 use Rattle.refusal.specs.Chains.{unless, andThen}

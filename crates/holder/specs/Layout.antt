@@ -1,7 +1,7 @@
 -- The sixteen bytes of a capability: port 6, object 3, rights 1, check 6.
 use Prim.Native.Nat.{ℕ}
 use mathlib.Core.Bool.{cond}
-use mathlib.Core.List.{List, [], _∷_, _++_}
+use mathlib.Core.List.{List, _∷_, _++_}
 use lib.Dec.{eqb}
 use lib.ListN.{length, take, drop, getD}
 use Rattle.std.specs.declared.result.Result.{Result}

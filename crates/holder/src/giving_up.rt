@@ -1,10 +1,10 @@
 //! Giving rights up: dropping one right, and thinning to a mask.
+ghost use Rattle.holder.specs.Dropping.{checkNumber, dropped, thinned};
+ghost use Rattle.holder.specs.Laws.{AnyOrder, OneByOne, StaysGenuine, TwiceIsOnce};
 ghost use Rattle.holder.specs.declared.refusals.HolderRefusal.the-variants.{CheckTooLarge};
 ghost use Rattle.refusal.specs.Chains.{unless};
 ghost use Rattle.std.specs.declared.result.Result.the-variants.{Ok};
 ghost use lib.Dec.{ltb};
-ghost use Rattle.holder.specs.Dropping.{checkNumber, dropped, thinned};
-ghost use Rattle.holder.specs.Laws.{AnyOrder, OneByOne, StaysGenuine, TwiceIsOnce};
 ghost use mathlib.Core.Path.{_≡_};
 use crate::capability::Capability;
 use crate::capability::Check;

@@ -1,17 +1,16 @@
 -- The test of a start decides its words, so the lowest start that passes is the lowest in words.
-use mathlib.Core.Path.{_≡_, refl, sym, ap, subst, _∙_}
-use mathlib.Core.Bool.{Bool, true, false, cond, not, _&&_, _||_}
+use mathlib.Core.Path.{_≡_, refl, sym, _∙_}
+use mathlib.Core.Bool.{Bool, true, false, not, _||_}
 use mathlib.Core.List.{List}
 use mathlib.Core.Logic.{inl, inr}
-use Prim.Native.Nat.{ℕ, _+_, _<_, _≤_, max}
+use Prim.Native.Nat.{ℕ, _+_, _<_, max}
 use native.Mathlib.Omega.{arith}
 use lib.Dec.{eqb, leb}
 use Rattle.std.specs.Orderings.{Decides}
-use Rattle.std.specs.shelf.Lists.{All}
 use Rattle.std.specs.declared.option.Option.{Option}
-use Rattle.std.specs.declared.option.Option.the-variants.{Some, None}
+use Rattle.std.specs.declared.option.Option.the-variants.{Some}
 use Rattle.std.proofs.shelf.Tests.{cond-true, cond-false, eq-eqb, ne-eqb, eqb-true, eqb-false, cases-bool, cases-eq, leb-true, leb-false, le-leb, or-cases, or-parts, false≢true}
-use Rattle.std.proofs.shelf.Ways.{tells, decides-and, decides-by-and, not-from-decides}
+use Rattle.std.proofs.shelf.Ways.{decides-and, decides-by-and, not-from-decides}
 use Rattle.memory.specs.Every.{every}
 use Rattle.memory.specs.Parts.{apart, clearOf, InPart, ClearOf}
 use Rattle.memory.specs.Placement.{allowed, placed, Allowed, Placed}

@@ -1,9 +1,9 @@
 -- The test of memory decides soundness in words.
-use mathlib.Core.Path.{_≡_, refl, sym, ap, _∙_}
-use mathlib.Core.Bool.{Bool, true, false, not, _&&_, _||_}
+use mathlib.Core.Path.{_≡_, refl}
+use mathlib.Core.Bool.{Bool, true, false, not, _||_}
 use mathlib.Core.List.{List, [], _∷_}
-use Prim.Native.Nat.{ℕ, _+_, _≤_, _<_}
-use lib.Dec.{eqb, leb, ltb}
+use Prim.Native.Nat.{ℕ, _+_, _≤_}
+use lib.Dec.{eqb, leb}
 use lib.ListN.{length, take, drop}
 use Rattle.std.specs.Orderings.{Decides}
 use Rattle.std.specs.shelf.Lists.{All}
@@ -12,10 +12,8 @@ use Rattle.std.proofs.shelf.Ways.{decides-and, decides-not, decides-eqb, decide
 use Rattle.holder.specs.Dropping.{checkNumber}
 use Rattle.memory.specs.Every.{every, pairwise}
 use Rattle.memory.specs.Names.{nameByte, lawfulName, nameOf, sameBytes, sameName}
-use Rattle.memory.specs.Parts.{clearOf, ClearOf}
-use Rattle.memory.specs.Soundness.{Content, secretBelow, withinArea, filesApart, fewRows, rowSound, rowsSound, directorySound, directoriesSound, secretsBelow, filesSound, rowsAllSound, sound}
+use Rattle.memory.specs.Soundness.{Content, withinArea, filesApart, fewRows, rowSound, rowsSound, directorySound, directoriesSound, secretsBelow, filesSound, sound}
 use Rattle.memory.specs.Words.{EachTwo, LawfulName, RowSound, RowsSound, DirectoriesSound, Sound}
-use Rattle.memory.specs.declared.records.FileRecord.{FileRecord}
 use Rattle.memory.specs.declared.records.DirectoryRecord.{DirectoryRecord}
 use Rattle.memory.specs.declared.records.Row.{Row}
 use Rattle.memory.proofs.PlaceFacts.{clear-decides}

@@ -9,7 +9,6 @@ use Rattle.holder.specs.Dropping.{checkNumber}
 use Rattle.memory.specs.Names.{nameOf}
 use Rattle.memory.specs.Parts.{ClearOf}
 use Rattle.memory.specs.Soundness.{Content}
-use Rattle.memory.specs.declared.records.FileRecord.{FileRecord}
 use Rattle.memory.specs.declared.records.DirectoryRecord.{DirectoryRecord}
 use Rattle.memory.specs.declared.records.Row.{Row}
 

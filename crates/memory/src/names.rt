@@ -1,8 +1,5 @@
 //! Names of rows: lawful or not, the same or not.
-ghost use Prim.Native.Nat.{_≤_};
-ghost use Rattle.memory.specs.Every.{every};
 ghost use Rattle.memory.specs.Names.{lawfulName, nameByte, sameBytes};
-ghost use lib.ListN.{length};
 ghost use mathlib.Core.Path.{_≡_};
 use crate::quantified::Rule;
 use crate::quantified::holds_of_each;

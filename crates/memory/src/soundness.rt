@@ -1,7 +1,7 @@
 //! The test of soundness, part by part.
 ghost use Prim.Native.Nat.{_+_};
-ghost use Rattle.memory.specs.Soundness.{fewRows, filesApart, filesSound, rowsAllSound, secretBelow, secretsBelow, sound, withinArea};
 ghost use Rattle.memory.specs.Held.{content};
+ghost use Rattle.memory.specs.Soundness.{fewRows, filesApart, filesSound, rowsAllSound, secretBelow, secretsBelow, sound, withinArea};
 ghost use Rattle.memory.specs.Words.{Sound};
 ghost use Rattle.std.specs.Orderings.{Decides};
 ghost use lib.Dec.{leb};

@@ -5,7 +5,7 @@ use Rattle.family.specs.Commuting.{Commuting}
 use Rattle.holder.specs.Bytes.{bytesOf}
 use Rattle.holder.specs.Dropping.{checkNumber}
 use Rattle.holder.specs.Laws.{StaysGenuine}
-use Rattle.holder.proofs.ThinningFacts.{Whole, twice-is-once, one-by-one, thinned-genuine}
+use Rattle.holder.proofs.ThinningFacts.{twice-is-once, one-by-one, thinned-genuine}
 use Rattle.holder.proofs.capability.Capability.thin_to.Needs as need
 
 pub returns : need.returns

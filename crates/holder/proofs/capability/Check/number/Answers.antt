@@ -4,7 +4,7 @@ use native.Mathlib.Omega.{arith}
 use lib.ListN.{length, getD}
 use borrow.Author.Needs.{needs}
 use Rattle.holder.specs.Bytes.{number, bytesOf}
-use Rattle.holder.proofs.ByteFacts.{Bytes, number-lt, bytesOf-number}
+use Rattle.holder.proofs.ByteFacts.{Bytes, bytesOf-number}
 use Rattle.holder.proofs.Spelled.{spelled}
 use Rattle.holder.proofs.capability.Check.number.Needs as need
 

@@ -1,11 +1,9 @@
 use mathlib.Core.Path.{_≡_, refl, sym, ap, _∙_}
 use mathlib.Core.List.{List, [], _∷_, _++_, append-assoc}
-use Prim.Native.Nat.{ℕ, _+_, _/_, _%_, _<_}
-use native.Mathlib.Omega.{arith}
-use lib.ListN.{length, take, getD}
+use Prim.Native.Nat.{ℕ, _+_, _/_, _%_}
+use lib.ListN.{take, getD}
 use lib.Seq.{take-all}
 use lib.Utf8.{encode}
-use borrow.Author.Needs.{needs}
 use Rattle.std.proofs.Writes.{wrote-none, put-more, put-is}
 use Rattle.std.proofs.shelf.Ascii.{encode-ascii}
 use Rattle.std.proofs.shelf.Lists.{take-more}
