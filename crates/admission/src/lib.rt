@@ -1,4 +1,6 @@
 //! Whether a presented capability is admitted to a request: port, object, check, kind and right.
+#![tactic(auto)]
+
 mod denials;
 mod gate;
 mod objects;

@@ -1,4 +1,6 @@
 //! Families of commuting functions: what a family is, and two of them, modular powers and Dickson polynomials.
+#![tactic(auto)]
+
 mod commuting;
 mod dickson_polynomials;
 mod figures;

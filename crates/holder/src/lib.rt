@@ -1,4 +1,6 @@
 //! The holders' part: capabilities as sixteen bytes, and how a holder gives rights up without asking anyone.
+#![tactic(auto)]
+
 mod capability;
 mod giving_up;
 mod layout;

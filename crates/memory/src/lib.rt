@@ -1,4 +1,6 @@
 //! What a store keeps in memory that its caller brings: records, rows and an area, whether they are sound, and where a new file lies.
+#![tactic(auto)]
+
 mod keeping;
 mod lent;
 mod names;

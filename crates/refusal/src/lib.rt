@@ -1,4 +1,6 @@
 //! What every refusal of the product comes to: a number, the layer that refused, and a place.
+#![tactic(auto)]
+
 ghost use Rattle.refusal.specs.Letters.{layer_letter};
 ghost use Rattle.refusal.specs.declared.Refusal.{Refusal};
 ghost use Rattle.std.specs.Prelude.{◌≡◌};

@@ -1,4 +1,6 @@
 //! restrict: gives up rights of a capability, on a laptop, with no connection.
+#![tactic(auto)]
+
 use anyhow::anyhow;
 use restriction::{Failure, restrict_words};
 use std::env;

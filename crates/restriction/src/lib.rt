@@ -1,4 +1,6 @@
 //! The command that restricts a capability: its words read, the request carried out, and the text that it prints.
+#![tactic(auto)]
+
 mod command;
 mod report;
 mod request;

@@ -1,4 +1,6 @@
 //! Secrets of objects: the owner capability made from one, checks judged against one, and whether one is fit.
+#![tactic(auto)]
+
 mod acceptance;
 mod filling;
 mod fitness;

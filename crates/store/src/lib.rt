@@ -1,4 +1,6 @@
 //! The store: files that never change and directories, kept in memory that its caller brings to each request.
+#![tactic(auto)]
+
 mod checking;
 mod creating;
 mod destroying;

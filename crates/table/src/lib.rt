@@ -1,4 +1,6 @@
 //! A table of records over a lent slice: it finds a live record by its place, claims a free place, and frees a place.
+#![tactic(auto)]
+
 mod container;
 mod liveness;
 mod places;

@@ -1,4 +1,6 @@
 //! Words of a command line or a script, read and written: hexadecimal, decimals, and the refusal line.
+#![tactic(auto)]
+
 mod bytes;
 mod decimal;
 mod hexadecimal;
