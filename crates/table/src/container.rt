@@ -40,16 +40,16 @@ impl<'a, R: Record> Table<'a, R> {
 
     /// The record at a place where it is live.
     pub fn find(&self, place: usize) -> Option<R>
-        ensures value { result ≡ found is_live self.now.records.now place }
-        ensures words { Found is_live self.now.records.now place result }
+        ensures value { result ≡ found R.is_live self.now.records.now place }
+        ensures words { Found R.is_live self.now.records.now place result }
     {
         find(self.records, place)
     }
 
     /// The first free place after the last one given, going round; the caller then gives it.
     pub fn claim(&self) -> Option<usize>
-        ensures value { result ≡ claimed is_live self.now.records.now self.now.next }
-        ensures words { Claimed is_live self.now.records.now self.now.next result }
+        ensures value { result ≡ claimed R.is_live self.now.records.now self.now.next }
+        ensures words { Claimed R.is_live self.now.records.now self.now.next result }
     {
         claim(self.records, self.next)
     }
@@ -81,8 +81,8 @@ impl<'a, R: Record> Table<'a, R> {
     /// Frees the record at a place; says whether there is such a place.
     pub fn free(&mut self, place: usize) -> bool
         ensures answer { result ≡ nat_lt place (length self.old.records.now) }
-        ensures records { self.new.records.now ≡ freed blank_of self.old.records.now place }
-        ensures words { Freed is_live self.old.records.now self.new.records.now place }
+        ensures records { self.new.records.now ≡ freed R.blank_of self.old.records.now place }
+        ensures words { Freed R.is_live self.old.records.now self.new.records.now place }
         ensures next { self.new.next ≡ self.old.next }
         ensures lender { self.new.records.ghost_name ≡ self.old.records.ghost_name }
     {

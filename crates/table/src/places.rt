@@ -19,8 +19,8 @@ fn read<R: Record>(records: &[R], place: usize) -> Option<R>
 
 /// The record at a place where it is live, for whoever only reads.
 pub fn find<R: Record>(records: &[R], place: usize) -> Option<R>
-    ensures value { result ≡ found is_live records.now place }
-    ensures words { Found is_live records.now place result }
+    ensures value { result ≡ found R.is_live records.now place }
+    ensures words { Found R.is_live records.now place result }
 {
     match read(records, place) {
         Some(record) if record.live() => Some(record),
@@ -30,7 +30,7 @@ pub fn find<R: Record>(records: &[R], place: usize) -> Option<R>
 
 /// Whether there is a live record at a place.
 fn live_at<R: Record>(records: &[R], place: usize) -> bool
-    ensures { result ≡ live_at is_live records.now place }
+    ensures { result ≡ live_at R.is_live records.now place }
 {
     match read(records, place) {
         Some(record) => record.live(),
@@ -53,7 +53,7 @@ fn place_on(next: usize, n: usize, steps: usize) -> usize
 
 /// How many steps on from `next` the first free place is, going round.
 fn steps_to_free<R: Record>(records: &[R], next: usize) -> Option<usize>
-    ensures { IsLowest (free_on is_live records.now next) (length records.now) result }
+    ensures { IsLowest (free_on R.is_live records.now next) (length records.now) result }
 {
     for steps in 0..records.len() {
         if !live_at(records, place_on(next, records.len(), steps)) {
@@ -65,8 +65,8 @@ fn steps_to_free<R: Record>(records: &[R], next: usize) -> Option<usize>
 
 /// The first free place from `next` on, going round, for whoever only reads.
 pub fn claim<R: Record>(records: &[R], next: usize) -> Option<usize>
-    ensures value { result ≡ claimed is_live records.now next }
-    ensures words { Claimed is_live records.now next result }
+    ensures value { result ≡ claimed R.is_live records.now next }
+    ensures words { Claimed R.is_live records.now next result }
 {
     match steps_to_free(records, next) {
         Some(steps) => Some(place_on(next, records.len(), steps)),
@@ -89,7 +89,7 @@ pub(crate) fn put<R: Record>(records: &mut [R], place: usize, record: R) -> bool
 /// Frees the record at a place, and says whether there is such a place.
 pub(crate) fn free<R: Record>(records: &mut [R], place: usize) -> bool
     ensures answer { result ≡ nat_lt place (length records.old) }
-    ensures written { records.new ≡ freed blank_of records.old place }
+    ensures written { records.new ≡ freed R.blank_of records.old place }
 {
     match read(records, place) {
         Some(record) => put(records, place, record.blank()),

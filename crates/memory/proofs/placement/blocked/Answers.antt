@@ -5,7 +5,7 @@ use Rattle.memory.proofs.placement.blocked.Goals as goal
 
 pub loop-file-preserved : goal.loop-file-preserved
 loop-file-preserved c =
-    every_more (clear_of c.args.start c.args.length) c.args.files.now c.loop-file.file-index _ c.loop-file-test.true c.in-default.ensures
+    every_more (clear_of c.args.start c.args.length) c.args.files.now c.loop-file.file-index _ c.loop-file-test.true c.in_default.ensures
     ∙ c.loop-file.invariant
 
 pub returns-in-Some : goal.returns-in-Some

@@ -22,13 +22,13 @@ module _ (n : ℕ) (port : List ℕ) (ds : List DirectoryRecord) (rows : List Ro
 pub loop-directory-preserved : goal.loop-directory-preserved
 loop-directory-preserved c =
     ap (directories_sound c.args.modulus c.args.port.bytes (drop (c.loop-directory.directory-index + 1) c.args.directories.now)) c.behind-rest.ensures
-    ∙ on c.args.modulus c.args.port.bytes c.args.directories.now c.loop-directory.rest.now c.loop-directory.directory-index _ c.loop-directory-test.true c.if-not-directory-sound.ensures
+    ∙ on c.args.modulus c.args.port.bytes c.args.directories.now c.loop-directory.rest.now c.loop-directory.directory-index _ c.loop-directory-test.true c.if-not-directory_sound.ensures
     ∙ c.loop-directory.invariant
 
-pub returns-then-not-directory-sound : goal.returns-then-not-directory-sound
-returns-then-not-directory-sound c =
+pub returns-then-not-directory_sound : goal.returns-then-not-directory_sound
+returns-then-not-directory_sound c =
     sym (sym c.loop-directory.invariant
-    ∙ off c.args.modulus c.args.port.bytes c.args.directories.now c.loop-directory.rest.now c.loop-directory.directory-index _ c.loop-directory-test.true c.if-not-directory-sound.ensures)
+    ∙ off c.args.modulus c.args.port.bytes c.args.directories.now c.loop-directory.rest.now c.loop-directory.directory-index _ c.loop-directory-test.true c.if-not-directory_sound.ensures)
 
 pub returns : goal.returns
 returns c =

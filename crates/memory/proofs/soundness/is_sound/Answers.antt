@@ -11,5 +11,5 @@ returns g c =
     let n = g.F.CommutingFamily.modulus_of c.args.family.now in
     let port = c.args.port.bytes in
     let held = content c.args.memory.now in
-    let value : c.passes-all.result ≡ sound n port held = c.passes-all.ensures in
-    record { value = value; words = Decides-at c.passes-all.result (sound n port held) value (sound_decides n port held) }
+    let value : c.passes_all.result ≡ sound n port held = c.passes_all.ensures in
+    record { value = value; words = Decides-at c.passes_all.result (sound n port held) value (sound_decides n port held) }

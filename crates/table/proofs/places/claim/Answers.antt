@@ -8,8 +8,8 @@ returns-in-Some g c =
     let live = g.R.Record.is_live in
     let xs = c.args.records.now in
     let next = c.args.next in
-    let p = c.place-on.result in
-    let e : Some p ≡ claimed live xs next = placed_some live xs next c.in-Some.steps p c.place-on.ensures c.in-Some.ensures in
+    let p = c.place_on.result in
+    let e : Some p ≡ claimed live xs next = placed_some live xs next c.in-Some.steps p c.place_on.ensures c.in-Some.ensures in
     record { value = e; words = is_claimed live xs next (Some p) e }
 
 pub returns-in-None : goal.returns-in-None

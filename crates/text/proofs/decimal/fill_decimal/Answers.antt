@@ -23,8 +23,8 @@ loop-left-init c = (
       ∙ append-nil (decimal c.args.n),
 )
 
-pub overflow-sub-start-in-loop-left : goal.overflow-sub-start-in-loop-left
-overflow-sub-start-in-loop-left c =
+pub overflow_sub-start-in-loop-left : goal.overflow_sub-start-in-loop-left
+overflow_sub-start-in-loop-left c =
     let front = c.loop-left.left / 10 in
     let step = length_step c.loop-left.left c.loop-left-test.true (omega (arith, c.ranges.n)) in
     omega (arith, decimal_nonempty front (omega (arith, c.ranges.n)))

@@ -27,11 +27,11 @@ returns-then-c-lt48 c =
     let step = at_drop_more all_ascii_digits word i 0 c.loop-c-test.true in
     sym (cond-false _ _ _ (sym c.loop-c.invariant.0 ∙ step ∙ and_left _ _ (no_digit b out)))
 
-pub overflow-mul-n : goal.overflow-mul-n
-overflow-mul-n c = omega (arith, room_left c.loop-c.n c.loop-c.c-index c.loop-c.invariant.2 (omega (arith, c.requires)))
+pub overflow_mul-n : goal.overflow_mul-n
+overflow_mul-n c = omega (arith, room_left c.loop-c.n c.loop-c.c-index c.loop-c.invariant.2 (omega (arith, c.requires)))
 
-pub overflow-add-n : goal.overflow-add-n
-overflow-add-n c = omega (arith, room_left c.loop-c.n c.loop-c.c-index c.loop-c.invariant.2 (omega (arith, c.requires)))
+pub overflow_add-n : goal.overflow_add-n
+overflow_add-n c = omega (arith, room_left c.loop-c.n c.loop-c.c-index c.loop-c.invariant.2 (omega (arith, c.requires)))
 
 pub loop-c-preserved : goal.loop-c-preserved
 loop-c-preserved c =

@@ -9,5 +9,5 @@ returns-then-lawful c =
     let some : 1 ≤ length word = search rules in
     let short : length word ≤ 15 = search rules in
     let front : (length word ≡ 1) ⊎ (get_or word 0 0 ≡ 48 → ⊥) = search (rules, nat_tests) in
-    let gives = c.number-of.ensures ∙ sym (read_of word (some, short, front)) in
+    let gives = c.number_of.ensures ∙ sym (read_of word (some, short, front)) in
     record { gives = gives; back = read_written word _ gives }

@@ -25,53 +25,53 @@ next_pair word i h inv all =
     let parts = and_parts _ _ (sym (ap all_hex (drop_pair word i h)) ∙ inv ∙ all) in
     (parts.0, (and_parts _ _ parts.1).0)
 
-pub returns-in-default : goal.returns-in-default
-returns-in-default g c =
+pub returns-in_default : goal.returns-in_default
+returns-in_default g c =
     let word = c.args.word.now in
     let i = c.loop-i.i in
-    let none = unchosen (is_digit (get_or word (2 * i) 0)) (digit_value (get_or word (2 * i) 0)) c.in-default.ensures in
+    let none = unchosen (is_digit (get_or word (2 * i) 0)) (digit_value (get_or word (2 * i) 0)) c.in_default.ensures in
     let pair = next_pair word i (omega arith) c.loop-i.invariant.1 in
     let gives = unread g.row.N word (λ e h. both_ways _ none (pair h).0) in
     record { gives = gives; back = read_written g.row.N word _ gives }
 
-pub returns-in-default-number-of : goal.returns-in-default-number-of
-returns-in-default-number-of g c =
+pub returns-in_default-number_of : goal.returns-in_default-number_of
+returns-in_default-number_of g c =
     let word = c.args.word.now in
     let i = c.loop-i.i in
     let none =
     unchosen (is_digit (get_or word (2 * i + 1) 0)) (digit_value (get_or word (2 * i + 1) 0))
-    c.in-default-number-of.ensures in
+    c.in_default-number_of.ensures in
     let pair = next_pair word i (omega arith) c.loop-i.invariant.1 in
     let gives = unread g.row.N word (λ e h. both_ways _ none (pair h).1) in
     record { gives = gives; back = read_written g.row.N word _ gives }
 
 -- what is known of the two digits that were read
 known :
-    (g : given.Over) (c : goal.In-Some-number-of g) →
+    (g : given.Over) (c : goal.In-Some-number_of g) →
     (is_digit (get_or c.args.word.now (2 * c.loop-i.i) 0) ≡ true)
     × (digit_value (get_or c.args.word.now (2 * c.loop-i.i) 0) ≡ c.in-Some.high) × (c.in-Some.high < 16)
     × (is_digit (get_or c.args.word.now (2 * c.loop-i.i + 1) 0) ≡ true)
-    × (digit_value (get_or c.args.word.now (2 * c.loop-i.i + 1) 0) ≡ c.in-Some-number-of.low)
-    × (c.in-Some-number-of.low < 16)
+    × (digit_value (get_or c.args.word.now (2 * c.loop-i.i + 1) 0) ≡ c.in-Some-number_of.low)
+    × (c.in-Some-number_of.low < 16)
 known g c =
     let high = digit_known (get_or c.args.word.now (2 * c.loop-i.i) 0) c.in-Some.high c.in-Some.ensures in
     let low =
-    digit_known (get_or c.args.word.now (2 * c.loop-i.i + 1) 0) c.in-Some-number-of.low
-    c.in-Some-number-of.ensures in
+    digit_known (get_or c.args.word.now (2 * c.loop-i.i + 1) 0) c.in-Some-number_of.low
+    c.in-Some-number_of.ensures in
     (high.0, high.1, high.2, low.0, low.1, low.2)
 
-pub overflow-mul-bytes : goal.overflow-mul-bytes
-overflow-mul-bytes g c = omega (arith, (known g c).2)
+pub overflow_mul-bytes : goal.overflow_mul-bytes
+overflow_mul-bytes g c = omega (arith, (known g c).2)
 
-pub overflow-add-bytes : goal.overflow-add-bytes
-overflow-add-bytes g c = omega (arith, (known g c).2, (known g c).5)
+pub overflow_add-bytes : goal.overflow_add-bytes
+overflow_add-bytes g c = omega (arith, (known g c).2, (known g c).5)
 
 pub loop-i-preserved : goal.loop-i-preserved
 loop-i-preserved g c =
     let word = c.args.word.now in
     let bytes = c.loop-i.bytes in
     let i = c.loop-i.i in
-    let byte = 16 * c.in-Some.high + c.in-Some-number-of.low in
+    let byte = 16 * c.in-Some.high + c.in-Some-number_of.low in
     let rest = drop (2 * (i + 1)) word in
     let of = known g c in
     let pair = drop_pair word i (omega arith) in

@@ -17,7 +17,7 @@ returns g c =
     let again : bytes_of 6 (check_number c.args.self) ≡ c.args.self.check.bytes = ap (bytes_of 6) (sym c.number-number.ensures.value) ∙ c.number-number.ensures.back in
     let whole : Whole c.args.self = record { byte = byte; again = again } in
     record {
-      value = c.without-right.ensures;
-      genuine = subst (StaysGenuine n f c.args.self) (sym c.without-right.ensures) (dropped_genuine n f laws c.args.self c.args.k whole);
+      value = c.without_right.ensures;
+      genuine = subst (StaysGenuine n f c.args.self) (sym c.without_right.ensures) (dropped_genuine n f laws c.args.self c.args.k whole);
       order = any_order n f laws c.args.self c.args.k whole;
     }

@@ -15,6 +15,6 @@ back bs = go (eqb (length bs) 16) refl
 
 pub returns : goal.returns
 returns c = record {
-  value = c.taken-apart.ensures;
-  back = subst (λ r. IfOk r (λ d. written d ≡ c.args.bytes.now)) (sym c.taken-apart.ensures) (back c.args.bytes.now);
+  value = c.taken_apart.ensures;
+  back = subst (λ r. IfOk r (λ d. written d ≡ c.args.bytes.now)) (sym c.taken_apart.ensures) (back c.args.bytes.now);
 }

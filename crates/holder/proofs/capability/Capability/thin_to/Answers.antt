@@ -17,8 +17,8 @@ returns g c =
     let mask : c.args.mask.bits < 256 = search rules in
     let again : bytes_of 6 (check_number c.args.self) ≡ c.args.self.check.bytes = ap (bytes_of 6) (sym c.number-number.ensures.value) ∙ c.number-number.ensures.back in
     record {
-      value = c.within-mask.ensures;
-      genuine = subst (StaysGenuine n f c.args.self) (sym c.within-mask.ensures) (thinned_genuine n f laws c.args.self c.args.mask.bits mask);
+      value = c.within_mask.ensures;
+      genuine = subst (StaysGenuine n f c.args.self) (sym c.within_mask.ensures) (thinned_genuine n f laws c.args.self c.args.mask.bits mask);
       twice = twice_is_once n f laws c.args.self c.args.mask.bits byte mask;
       one_by_one = one_by_one n f laws c.args.self c.args.mask.bits (record { byte = byte; again = again }) mask;
     }

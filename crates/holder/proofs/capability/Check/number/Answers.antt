@@ -15,7 +15,7 @@ returns c =
     let b4 : get_or own 4 0 < 256 = search rules in
     let b5 : get_or own 5 0 < 256 = search rules in
     let bytes : Bytes own = subst Bytes (sym (spelled own 6 six)) (b0, (b1, (b2, (b3, (b4, (b5, tt)))))) in
-    let value : c.from-be-bytes.result ≡ number own = omega (arith, ap number (spelled own 6 six)) in
+    let value : c.from_be_bytes.result ≡ number own = omega (arith, ap number (spelled own 6 six)) in
     record {
       value = value;
       narrow = search rules;

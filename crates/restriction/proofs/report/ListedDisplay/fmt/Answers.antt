@@ -6,7 +6,7 @@ use Rattle.std.proofs.lemmas.Bool.{cond-true, cond-false, eq-eqb, ne_eqb}
 use Rattle.family.specs.Rights.{has}
 use Rattle.restriction.specs.Report.{numbers_below}
 use Rattle.restriction.proofs.report.ListedDisplay.fmt.Goals as goal
-use Rattle.restriction.proofs.report.ListedDisplay.fmt.Goals.{then-self-k-eq1+in-ok-write-char+in-ok-write-char-2, else-self-k-eq1}
+use Rattle.restriction.proofs.report.ListedDisplay.fmt.Goals.{then-self-k-eq1+in_ok-write_char+in_ok-write_char-2, else-self-k-eq1}
 
 -- one right more
 below_none : (set : ℕ) → numbers_below set 0 ≡ []
@@ -33,9 +33,9 @@ loop-k-preserved g c = λ p.
     let k : ℕ = c.loop-k.k in
     let before = c.loop-k.invariant p in
     elim c.if-self-k-eq1.branch [
-      | then-self-k-eq1+in-ok-write-char+in-ok-write-char-2 w ↦
-          let first = w.in-ok-write-char.ensures.writes before.plain refl in
-          let second = w.in-ok-write-char-2.ensures.writes first.plain refl in
+      | then-self-k-eq1+in_ok-write_char+in_ok-write_char-2 w ↦
+          let first = w.in_ok-write_char.ensures.writes before.plain refl in
+          let second = w.in_ok-write_char-2.ensures.writes first.plain refl in
           let digit : encode (48 + k) ≡ (48 + k) ∷ [] = encode_ascii (48 + k) (omega arith) in
           let text : (numbers_below set k ++ encode 32) ++ encode (48 + k) ≡ numbers_below set (k + 1) =
           ap (λ t. (numbers_below set k ++ t) ++ encode (48 + k)) (encode_ascii 32 (omega arith))

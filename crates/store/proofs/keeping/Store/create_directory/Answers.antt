@@ -9,6 +9,6 @@ pub returns : goal.returns
 returns g c = record {
   outcome = finished (kept g.F.CommutingFamily.modulus_of g.F.CommutingFamily.function_of c.args.self.now) (content c.args.memory.now)
       c.args.capability (create_directory c.args.secret c.args.scratch.now) _ _ _ _
-      (search rules) (search rules) c.try-directory.ensures.outcome;
+      (search rules) (search rules) c.try_directory.ensures.outcome;
   loan = search rules;
 }

@@ -8,6 +8,6 @@ use Rattle.store.proofs.keeping.Store.destroy.Goals as goal
 pub returns : goal.returns
 returns g c = record {
   outcome = finished (kept g.F.CommutingFamily.modulus_of g.F.CommutingFamily.function_of c.args.self.now) (content c.args.memory.now)
-      c.args.capability destroy _ _ _ _ (search rules) refl c.try-destroy.ensures.outcome;
+      c.args.capability destroy _ _ _ _ (search rules) refl c.try_destroy.ensures.outcome;
   loan = search rules;
 }

@@ -9,21 +9,21 @@ use Rattle.store.proofs.keeping.Store.serve.Goals as goal
 
 pub returns-in-CreateFile : goal.returns-in-CreateFile
 returns-in-CreateFile g c = rw c.in-CreateFile.is (record {
-  outcome = served_alike _ granted Granted _ _ _ _ _ _ (λ _. refl) c.granted.ensures c.create-file.ensures.outcome;
-  loan = c.create-file.ensures.loan;
+  outcome = served_alike _ granted Granted _ _ _ _ _ _ (λ _. refl) c.granted.ensures c.create_file.ensures.outcome;
+  loan = c.create_file.ensures.loan;
 })
 
 pub returns-in-CreateDirectory : goal.returns-in-CreateDirectory
 returns-in-CreateDirectory g c = rw c.in-CreateDirectory.is (record {
-  outcome = served_alike _ granted Granted _ _ _ _ _ _ (λ _. refl) c.granted-in-CreateDirectory.ensures c.create-directory.ensures.outcome;
-  loan = c.create-directory.ensures.loan;
+  outcome = served_alike _ granted Granted _ _ _ _ _ _ (λ _. refl) c.granted-in-CreateDirectory.ensures c.create_directory.ensures.outcome;
+  loan = c.create_directory.ensures.loan;
 })
 
 pub returns-in-Read : goal.returns-in-Read
 returns-in-Read g c = rw c.in-Read.is (record {
   outcome = nothing_changed _ _ _ _ _
       (read_outcome (kept g.F.CommutingFamily.modulus_of g.F.CommutingFamily.function_of c.args.self.now) (content c.args.memory.now) c.args.capability)
-      c.tell-part.ensures;
+      c.tell_part.ensures;
   loan = search rules;
 })
 

@@ -9,10 +9,10 @@ use Rattle.store.specs.Requests.{the_size}
 use Rattle.store.proofs.FileFacts.{size_outcome}
 use Rattle.store.proofs.keeping.Store.size.Goals as goal
 
-pub returns-in-err-file : goal.returns-in-err-file
-returns-in-err-file g c =
+pub returns-in_err-file : goal.returns-in_err-file
+returns-in_err-file g c =
     let k : Kept = kept g.F.CommutingFamily.modulus_of g.F.CommutingFamily.function_of c.args.self.now in
     let m : Content = content c.args.memory.now in
-    let p = err_from_is_err_and c.from-residual.result c.from-residual.ensures.1 in
-    rw (p.1, p.2) (ap (told_as (λ f. the_size f.length)) (sym c.in-err-file.was ∙ c.enter-file.ensures.value)
+    let p = err_from_is_err_and c.from_residual.result c.from_residual.ensures.1 in
+    rw (p.1, p.2) (ap (told_as (λ f. the_size f.length)) (sym c.in_err-file.was ∙ c.enter_file.ensures.value)
     ∙ ap (λ o. o.answer) (size_outcome k m c.args.capability))

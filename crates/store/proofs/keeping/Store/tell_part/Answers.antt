@@ -13,5 +13,5 @@ pub returns-in-Err : goal.returns-in-Err
 returns-in-Err g c =
     let k : Kept = kept g.F.CommutingFamily.modulus_of g.F.CommutingFamily.function_of c.args.self.now in
     let m : Content = content c.args.memory.now in
-    ap (told_as (λ f. the_bytes (bytes_in m f))) (sym c.in-Err.is ∙ c.enter-file.ensures.value)
+    ap (told_as (λ f. the_bytes (bytes_in m f))) (sym c.in-Err.is ∙ c.enter_file.ensures.value)
     ∙ ap (λ o. o.answer) (read_outcome k m c.args.capability)

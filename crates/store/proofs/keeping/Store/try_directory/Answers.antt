@@ -13,9 +13,9 @@ returns g c =
     let k : Kept = kept g.F.CommutingFamily.modulus_of g.F.CommutingFamily.function_of c.args.self.now in
     let m : Content = content c.args.memory.now in
     record {
-      outcome = came_out k m [] _ (new_directory k m c.args.secret c.in-ok-place.place) _ _ _
-          (then_next _ _ _ (sym c.enter.ensures.value ∙ c.in-ok-enter.was)
-          ∙ then_next _ _ _ (sym c.free-directory.ensures.value ∙ c.in-ok-place.was))
-          (ap granted c.grant-grant.ensures) c.write-directory.ensures.store c.write-directory.ensures.memory;
+      outcome = came_out k m [] _ (new_directory k m c.args.secret c.in_ok-place.place) _ _ _
+          (then_next _ _ _ (sym c.enter.ensures.value ∙ c.in_ok-enter.was)
+          ∙ then_next _ _ _ (sym c.free_directory.ensures.value ∙ c.in_ok-place.was))
+          (ap granted c.grant-grant.ensures) c.write_directory.ensures.store c.write_directory.ensures.memory;
       loan = search rules;
     }

@@ -13,9 +13,9 @@ returns g c =
     let k : Kept = kept g.F.CommutingFamily.modulus_of g.F.CommutingFamily.function_of c.args.self.now in
     let m : Content = content c.args.memory.now in
     record {
-      outcome = came_out k m [] _ (new_file k m c.args.bytes.now c.args.secret c.in-ok-spot.spot) _ _ _
-          (then_next _ _ _ (sym c.enter.ensures.value ∙ c.in-ok-enter.was)
-          ∙ then_next _ _ _ (sym c.spot.ensures.value ∙ c.in-ok-spot.was))
-          (ap granted c.grant-grant.ensures) c.write-file.ensures.store c.write-file.ensures.memory;
+      outcome = came_out k m [] _ (new_file k m c.args.bytes.now c.args.secret c.in_ok-spot.spot) _ _ _
+          (then_next _ _ _ (sym c.enter.ensures.value ∙ c.in_ok-enter.was)
+          ∙ then_next _ _ _ (sym c.spot.ensures.value ∙ c.in_ok-spot.was))
+          (ap granted c.grant-grant.ensures) c.write_file.ensures.store c.write_file.ensures.memory;
       loan = search rules;
     }

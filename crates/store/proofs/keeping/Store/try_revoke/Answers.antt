@@ -15,12 +15,12 @@ pub returns : goal.returns
 returns g c =
     let k : Kept = kept g.F.CommutingFamily.modulus_of g.F.CommutingFamily.function_of c.args.self.now in
     let m : Content = content c.args.memory.now in
-    let change : Change = renewed k m c.args.secret c.in-ok-target.target in
-    let new : fresh k c.in-ok-target.target c.args.secret ≡ true = search rules in
+    let change : Change = renewed k m c.args.secret c.in_ok-target.target in
+    let new : fresh k c.in_ok-target.target c.args.secret ≡ true = search rules in
     record {
       outcome = came_out k m [] _ change _ _ _
-          (then_next _ _ _ (sym c.enter.ensures.value ∙ c.in-ok-target.was) ∙ ap (λ b. unless b UnfitSecret (Ok change)) new)
-          (ap granted (c.grant-grant.ensures ∙ ap (λ o. grant_of k o c.args.secret) c.number-of.ensures))
+          (then_next _ _ _ (sym c.enter.ensures.value ∙ c.in_ok-target.was) ∙ ap (λ b. unless b UnfitSecret (Ok change)) new)
+          (ap granted (c.grant-grant.ensures ∙ ap (λ o. grant_of k o c.args.secret) c.number_of.ensures))
           c.renew.ensures.store c.renew.ensures.memory;
       loan = search rules;
     }

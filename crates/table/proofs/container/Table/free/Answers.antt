@@ -11,5 +11,5 @@ returns g c =
       records = written;
       words = is_freed m.is_live m.blank_of g.met.R.Record.blank_is_free c.args.self.now.records.now c.free.new.records c.args.place written;
       next = refl {a = c.args.self.now.next};
-      lender = refl {a = c.args.self.now.records.name};
+      lender = refl {a = c.args.self.now.records.ghost_name};
     }

@@ -20,15 +20,15 @@ loop-b-preserved g c = λ p.
     let bytes : List ℕ = c.args.self.now.bytes.now in
     let i : ℕ = c.loop-b.b-index in
     let before = c.loop-b.invariant p in
-    let first = c.in-ok-write-char.ensures.writes before.plain refl in
-    let second = c.in-ok-write-char-2.ensures.writes first.plain refl in
-    let high : encode c.digit-of.result ≡ digit (get_or bytes i 0 / 16) ∷ [] =
-    encode_ascii c.digit-of.result c.digit-of.ensures.ascii ∙ ap (λ d. d ∷ []) c.digit-of.ensures.value in
-    let low : encode c.digit-of-in-loop-b.result ≡ digit (get_or bytes i 0 % 16) ∷ [] =
-    encode_ascii c.digit-of-in-loop-b.result c.digit-of-in-loop-b.ensures.ascii ∙ ap (λ d. d ∷ []) c.digit-of-in-loop-b.ensures.value in
+    let first = c.in_ok-write_char.ensures.writes before.plain refl in
+    let second = c.in_ok-write_char-2.ensures.writes first.plain refl in
+    let high : encode c.digit_of.result ≡ digit (get_or bytes i 0 / 16) ∷ [] =
+    encode_ascii c.digit_of.result c.digit_of.ensures.ascii ∙ ap (λ d. d ∷ []) c.digit_of.ensures.value in
+    let low : encode c.digit_of-in-loop-b.result ≡ digit (get_or bytes i 0 % 16) ∷ [] =
+    encode_ascii c.digit_of-in-loop-b.result c.digit_of-in-loop-b.ensures.ascii ∙ ap (λ d. d ∷ []) c.digit_of-in-loop-b.ensures.value in
     let done : List ℕ = hex_text (take i bytes) in
-    let both : (done ++ encode c.digit-of.result) ++ encode c.digit-of-in-loop-b.result ≡ hex_text (take (i + 1) bytes) =
-    ap (λ t. (done ++ t) ++ encode c.digit-of-in-loop-b.result) high
+    let both : (done ++ encode c.digit_of.result) ++ encode c.digit_of-in-loop-b.result ≡ hex_text (take (i + 1) bytes) =
+    ap (λ t. (done ++ t) ++ encode c.digit_of-in-loop-b.result) high
     ∙ ap (λ t. (done ++ (digit (get_or bytes i 0 / 16) ∷ [])) ++ t) low
     ∙ append_assoc done (digit (get_or bytes i 0 / 16) ∷ []) (digit (get_or bytes i 0 % 16) ∷ [])
     ∙ sym (hex_text-append (take i bytes) (get_or bytes i 0 ∷ []))
