@@ -35,7 +35,7 @@ fn permit(asking: Asking, target: Target, rights: Rights) -> Result<Target, Deni
 impl<F: CommutingFamily> Gate<F> {
     /// The object of a capability that is accepted now.
     pub fn judge(&self, memory: &Memory, capability: Capability) -> Result<Target, Denial>
-        ensures { result ≡ judged (modulus_of self.now.family) (function_of self.now.family) self.now.port.bytes self.now.secret (content memory.now) capability }
+        ensures { result ≡ judged (F.modulus_of self.now.family) (F.function_of self.now.family) self.now.port.bytes self.now.secret (content memory.now) capability }
     {
         if !are_same_bytes(&capability.port.bytes, &self.port.bytes) {
             return Err(Denial::WrongPort);
@@ -59,7 +59,7 @@ impl<F: CommutingFamily> Gate<F> {
         asking: Asking,
         capability: Capability,
     ) -> Result<Target, Denial>
-        ensures { result ≡ admitted (modulus_of self.now.family) (function_of self.now.family) self.now.port.bytes self.now.secret (content memory.now) asking capability }
+        ensures { result ≡ admitted (F.modulus_of self.now.family) (F.function_of self.now.family) self.now.port.bytes self.now.secret (content memory.now) asking capability }
     {
         let target = self.judge(memory, capability)?;
         permit(asking, target, capability.rights)

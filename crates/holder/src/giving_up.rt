@@ -11,7 +11,7 @@ use family::{CommutingFamily, thin_number};
 
 /// Refused unless the number of a check is below the family's modulus.
 fn judged<F: CommutingFamily>(family: &F, number: u64) -> Result<(), HolderRefusal>
-    ensures { result ≡ unless (nat_lt number (modulus_of family.now)) CheckTooLarge (Ok tt) }
+    ensures { result ≡ unless (nat_lt number (F.modulus_of family.now)) CheckTooLarge (Ok tt) }
 {
     if number >= family.modulus() {
         return Err(HolderRefusal::CheckTooLarge);
@@ -27,7 +27,7 @@ fn without_right<F: CommutingFamily>(
     k: u64,
 ) -> Result<Capability, HolderRefusal>
     requires { number ≡ check_number capability }
-    ensures { result ≡ dropped (modulus_of family.now) (function_of family.now) capability k }
+    ensures { result ≡ dropped (F.modulus_of family.now) (F.function_of family.now) capability k }
 {
     if k > 7 {
         return Err(HolderRefusal::NoSuchRight);
@@ -54,7 +54,7 @@ fn within_mask<F: CommutingFamily>(
     mask: u8,
 ) -> Result<Capability, HolderRefusal>
     requires { number ≡ check_number capability }
-    ensures { result ≡ thinned (modulus_of family.now) (function_of family.now) capability mask }
+    ensures { result ≡ thinned (F.modulus_of family.now) (F.function_of family.now) capability mask }
 {
     judged(family, number)?;
     let held = capability.rights.bits;
@@ -73,9 +73,9 @@ impl Capability {
         family: &F,
         k: u64,
     ) -> Result<Capability, HolderRefusal>
-        ensures value { result ≡ dropped (modulus_of family.now) (function_of family.now) self k }
-        ensures genuine { StaysGenuine (modulus_of family.now) (function_of family.now) self result }
-        ensures order { AnyOrder (modulus_of family.now) (function_of family.now) self k }
+        ensures value { result ≡ dropped (F.modulus_of family.now) (F.function_of family.now) self k }
+        ensures genuine { StaysGenuine (F.modulus_of family.now) (F.function_of family.now) self result }
+        ensures order { AnyOrder (F.modulus_of family.now) (F.function_of family.now) self k }
     {
         let number = self.check.number();
         without_right(family, self, number, k)
@@ -87,10 +87,10 @@ impl Capability {
         family: &F,
         mask: Mask,
     ) -> Result<Capability, HolderRefusal>
-        ensures value { result ≡ thinned (modulus_of family.now) (function_of family.now) self mask.bits }
-        ensures genuine { StaysGenuine (modulus_of family.now) (function_of family.now) self result }
-        ensures twice { TwiceIsOnce (modulus_of family.now) (function_of family.now) self mask.bits }
-        ensures one_by_one { OneByOne (modulus_of family.now) (function_of family.now) self mask.bits }
+        ensures value { result ≡ thinned (F.modulus_of family.now) (F.function_of family.now) self mask.bits }
+        ensures genuine { StaysGenuine (F.modulus_of family.now) (F.function_of family.now) self result }
+        ensures twice { TwiceIsOnce (F.modulus_of family.now) (F.function_of family.now) self mask.bits }
+        ensures one_by_one { OneByOne (F.modulus_of family.now) (F.function_of family.now) self mask.bits }
     {
         let number = self.check.number();
         within_mask(family, self, number, mask.bits)

@@ -12,7 +12,7 @@ pub trait Rule<T: Copy> {
 
 /// Whether the rule holds of each element.
 pub fn holds_of_each<T: Copy, P: Rule<T>>(rule: &P, items: &[T]) -> bool
-    ensures { result ≡ every (passes rule.now) items.now }
+    ensures { result ≡ every (P.passes rule.now) items.now }
 {
     for item in items {
         if !rule.holds(*item) {
@@ -32,7 +32,7 @@ pub trait PairRule<T: Copy> {
 
 /// Whether the rule holds of one element with each of the later ones.
 fn holds_with_each<T: Copy, P: PairRule<T>>(rule: &P, item: T, others: &[T]) -> bool
-    ensures { result ≡ every (agrees rule.now item) others.now }
+    ensures { result ≡ every (P.agrees rule.now item) others.now }
 {
     for other in others {
         if !rule.holds_of(item, *other) {
@@ -44,7 +44,7 @@ fn holds_with_each<T: Copy, P: PairRule<T>>(rule: &P, item: T, others: &[T]) -> 
 
 /// Whether the rule holds of each two elements.
 pub fn holds_of_each_two<T: Copy, P: PairRule<T>>(rule: &P, items: &[T]) -> bool
-    ensures { result ≡ pairwise (agrees rule.now) items.now }
+    ensures { result ≡ pairwise (P.agrees rule.now) items.now }
 {
     for i in 0..items.len() {
         if !holds_with_each(rule, items[i], &items[i + 1..]) {

@@ -90,7 +90,7 @@ impl<F: CommutingFamily> Rule<DirectoryRecord> for LiveSecret<'_, F> {
 
 /// Whether live secrets are below the modulus.
 fn secrets_below<F: CommutingFamily>(family: &F, memory: &Memory) -> bool
-    ensures { result ≡ secrets_below (modulus_of family.now) (content memory.now) }
+    ensures { result ≡ secrets_below (F.modulus_of family.now) (content memory.now) }
 {
     let rule = LiveSecret { family };
     if !holds_of_each::<FileRecord, LiveSecret<'_, _>>(&rule, memory.files) {
@@ -114,7 +114,7 @@ fn files_sound(memory: &Memory) -> bool
 
 /// Whether row counts are small enough and counted rows are sound.
 fn rows_all_sound<F: CommutingFamily>(family: &F, port: Port, memory: &Memory) -> bool
-    ensures { result ≡ rows_all_sound (modulus_of family.now) port.bytes (content memory.now) }
+    ensures { result ≡ rows_all_sound (F.modulus_of family.now) port.bytes (content memory.now) }
 {
     if !holds_of_each(&FewRows, memory.directories) {
         return false;
@@ -124,7 +124,7 @@ fn rows_all_sound<F: CommutingFamily>(family: &F, port: Port, memory: &Memory) -
 
 /// The parts of soundness, one after the other.
 fn passes_all<F: CommutingFamily>(family: &F, port: Port, memory: &Memory) -> bool
-    ensures { result ≡ (secrets_below (modulus_of family.now) (content memory.now) && (files_sound (content memory.now) && rows_all_sound (modulus_of family.now) port.bytes (content memory.now))) }
+    ensures { result ≡ (secrets_below (F.modulus_of family.now) (content memory.now) && (files_sound (content memory.now) && rows_all_sound (F.modulus_of family.now) port.bytes (content memory.now))) }
 {
     if !secrets_below(family, memory) {
         return false;
@@ -137,8 +137,8 @@ fn passes_all<F: CommutingFamily>(family: &F, port: Port, memory: &Memory) -> bo
 
 /// Whether the memory is sound for this family and port.
 pub fn is_sound<F: CommutingFamily>(family: &F, port: Port, memory: &Memory) -> bool
-    ensures value { result ≡ sound (modulus_of family.now) port.bytes (content memory.now) }
-    ensures words { Decides result (Sound (modulus_of family.now) port.bytes (content memory.now)) }
+    ensures value { result ≡ sound (F.modulus_of family.now) port.bytes (content memory.now) }
+    ensures words { Decides result (Sound (F.modulus_of family.now) port.bytes (content memory.now)) }
 {
     passes_all(family, port, memory)
 }

@@ -22,12 +22,12 @@ pub fn open<F: CommutingFamily + Drop>(
     memory: &mut Memory,
     scratch: &mut [u64],
 ) -> Result<Opened<F>, StoreRefusal>
-    ensures answer { opened_as modulus_of function_of (content memory.new) result ≡ opening (modulus_of family) (function_of family) port secret (content memory.old) scratch.old }
-    ensures memory { content memory.new ≡ memory_opened (content memory.old) (opening (modulus_of family) (function_of family) port secret (content memory.old) scratch.old) }
+    ensures answer { opened_as F.modulus_of F.function_of (content memory.new) result ≡ opening (F.modulus_of family) (F.function_of family) port secret (content memory.old) scratch.old }
+    ensures memory { content memory.new ≡ memory_opened (content memory.old) (opening (F.modulus_of family) (F.function_of family) port secret (content memory.old) scratch.old) }
     ensures scratch { scratch.new ≡ scratch_opened (content memory.old) scratch.old }
     ensures loan { SameLoan memory.old memory.new }
     ensures requests { RequestLaws }
-    ensures law { IfOk result (λ opened. LawOfRuns (modulus_of family) (function_of family) (first_grant opened secret) (start_state modulus_of function_of opened (content memory.new))) }
+    ensures law { IfOk result (λ opened. LawOfRuns (F.modulus_of family) (F.function_of family) (first_grant opened secret) (start_state F.modulus_of F.function_of opened (content memory.new))) }
 {
     Store::open(family, port, secret, memory, scratch)
 }

@@ -10,7 +10,7 @@ use family::CommutingFamily;
 fn add_right<F: CommutingFamily>(family: &F, k: u64, half: usize, numbers: &mut [u64])
     requires { 2 * half ≤ length numbers.old }
     ensures lower { (m : ℕ) → m < half → slice_index numbers.new m ≡ slice_index numbers.old m }
-    ensures upper { (m : ℕ) → m < half → slice_index numbers.new (half + m) ≡ asked (modulus_of family.now) (function_of family.now) k (slice_index numbers.old m) }
+    ensures upper { (m : ℕ) → m < half → slice_index numbers.new (half + m) ≡ asked (F.modulus_of family.now) (F.function_of family.now) k (slice_index numbers.old m) }
 {
     for m in 0..half {
         numbers[half + m] = family.apply(k, numbers[m]);
@@ -20,7 +20,7 @@ fn add_right<F: CommutingFamily>(family: &F, k: u64, half: usize, numbers: &mut 
 /// Makes each number M the secret s thinned by the set M, with one application a set.
 pub(crate) fn fill<F: CommutingFamily>(family: &F, s: u64, numbers: &mut [u64])
     requires { length numbers.old ≡ 256 }
-    ensures { (m : ℕ) → m < 256 → slice_index numbers.new m ≡ thin (asked (modulus_of family.now) (function_of family.now)) s (has m) }
+    ensures { (m : ℕ) → m < 256 → slice_index numbers.new m ≡ thin (asked (F.modulus_of family.now) (F.function_of family.now)) s (has m) }
 {
     numbers[0] = s;
     let mut half = 1;

@@ -40,8 +40,8 @@ fn all_differ(numbers: &[u64]) -> bool
 /// Whether the thinned numbers of s, a number below the modulus, are pairwise different.
 fn thinned_differ<F: CommutingFamily>(family: &F, s: u64, numbers: &mut [u64]) -> bool
     requires size { length numbers.old ≡ 256 }
-    requires below { s < modulus_of family.now }
-    ensures { result ≡ all_apart (thinned_by (function_of family.now) s) 256 }
+    requires below { s < F.modulus_of family.now }
+    ensures { result ≡ all_apart (thinned_by (F.function_of family.now) s) 256 }
 {
     fill(family, s, numbers);
     all_differ(numbers)
@@ -50,14 +50,14 @@ fn thinned_differ<F: CommutingFamily>(family: &F, s: u64, numbers: &mut [u64]) -
 /// Whether s is fit, with 256 numbers to work in.
 fn verdict<F: CommutingFamily>(family: &F, s: u64, numbers: &mut [u64]) -> bool
     requires { length numbers.old ≡ 256 }
-    ensures { result ≡ is_fit (modulus_of family.now) (function_of family.now) s }
+    ensures { result ≡ is_fit (F.modulus_of family.now) (F.function_of family.now) s }
 {
     s < family.modulus() && thinned_differ(family, s, numbers)
 }
 
 /// The verdict on s, worked out in the scratch and wiped from it, if the scratch has the right size.
 fn judged<F: CommutingFamily>(family: &F, s: u64, scratch: &mut [u64]) -> Option<bool>
-    ensures value { result ≡ verdict_of (modulus_of family.now) (function_of family.now) s scratch.old }
+    ensures value { result ≡ verdict_of (F.modulus_of family.now) (F.function_of family.now) s scratch.old }
     ensures zeroed { scratch.new ≡ left_after scratch.old }
 {
     if scratch.len() != SETS {
@@ -69,9 +69,9 @@ fn judged<F: CommutingFamily>(family: &F, s: u64, scratch: &mut [u64]) -> Option
 
 /// Whether the secret is fit; none, and the scratch untouched, unless it has 256 numbers, which are all zero afterwards.
 pub fn is_fit<F: CommutingFamily>(family: &F, secret: Secret, scratch: &mut [u64]) -> Option<bool>
-    ensures value { result ≡ verdict_of (modulus_of family.now) (function_of family.now) secret.value scratch.old }
+    ensures value { result ≡ verdict_of (F.modulus_of family.now) (F.function_of family.now) secret.value scratch.old }
     ensures zeroed { scratch.new ≡ left_after scratch.old }
-    ensures decides { Decides (is_fit (modulus_of family.now) (function_of family.now) secret.value) (Fit (modulus_of family.now) (function_of family.now) secret.value) }
+    ensures decides { Decides (is_fit (F.modulus_of family.now) (F.function_of family.now) secret.value) (Fit (F.modulus_of family.now) (F.function_of family.now) secret.value) }
 {
     judged(family, secret.value, scratch)
 }

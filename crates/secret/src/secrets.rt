@@ -28,7 +28,7 @@ impl Secret {
 
     /// Whether the secret is below the family's modulus, as any that the family can thin is.
     pub fn below<F: CommutingFamily>(self, family: &F) -> bool
-        ensures { result ≡ nat_lt self.value (modulus_of family.now) }
+        ensures { result ≡ nat_lt self.value (F.modulus_of family.now) }
     {
         self.value < family.modulus()
     }

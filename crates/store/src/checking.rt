@@ -15,7 +15,7 @@ use memory::{Memory, is_sound};
 impl<F: CommutingFamily> Store<F> {
     /// Whether memory has the sizes that it had at the opening.
     pub(crate) fn sizes_agree(&self, memory: &Memory) -> bool
-        ensures { result ≡ sizes_agree (kept modulus_of function_of self.now) (content memory.now) }
+        ensures { result ≡ sizes_agree (kept F.modulus_of F.function_of self.now) (content memory.now) }
     {
         memory.files.len() == self.files
             && memory.directories.len() == self.directories
@@ -30,8 +30,8 @@ impl<F: CommutingFamily> Store<F> {
         asking: Asking,
         capability: Capability,
     ) -> Result<Target, StoreRefusal>
-        ensures value { result ≡ entered (kept modulus_of function_of self.now) (content memory.now) asking capability }
-        ensures words { IfOk result (Entry (kept modulus_of function_of self.now) (content memory.now)) }
+        ensures value { result ≡ entered (kept F.modulus_of F.function_of self.now) (content memory.now) asking capability }
+        ensures words { IfOk result (Entry (kept F.modulus_of F.function_of self.now) (content memory.now)) }
     {
         self.pass(memory, asking, capability)
     }
@@ -43,7 +43,7 @@ impl<F: CommutingFamily> Store<F> {
         asking: Asking,
         capability: Capability,
     ) -> Result<Target, StoreRefusal>
-        ensures { result ≡ entered (kept modulus_of function_of self.now) (content memory.now) asking capability }
+        ensures { result ≡ entered (kept F.modulus_of F.function_of self.now) (content memory.now) asking capability }
     {
         if !is_sound(&self.gate.family, self.gate.port, memory) {
             return Err(StoreRefusal::UnsoundMemory);

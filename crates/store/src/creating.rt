@@ -53,8 +53,8 @@ impl<F: CommutingFamily> Store<F> {
         scratch: &mut [u64],
     ) -> Result<Spot, StoreRefusal>
         requires { length scratch.old ≡ 256 }
-        ensures value { result ≡ spot_for (kept modulus_of function_of self.now) (content memory.now) len secret }
-        ensures words { IfOk result (RightSpot (kept modulus_of function_of self.now) (content memory.now) len secret) }
+        ensures value { result ≡ spot_for (kept F.modulus_of F.function_of self.now) (content memory.now) len secret }
+        ensures words { IfOk result (RightSpot (kept F.modulus_of F.function_of self.now) (content memory.now) len secret) }
     {
         if is_fit(&self.gate.family, secret, scratch) != Some(true) {
             return Err(StoreRefusal::UnfitSecret);
@@ -72,8 +72,8 @@ impl<F: CommutingFamily> Store<F> {
     fn write_file(&mut self, memory: &mut Memory, spot: Spot, bytes: &[u8], secret: Secret)
         requires place { spot.place < length memory.old.files.now }
         requires part { spot.start + length bytes.now ≤ length memory.old.area.now }
-        ensures memory { content memory.new ≡ (new_file (kept modulus_of function_of self.old) (content memory.old) bytes.now secret spot).memory }
-        ensures store { kept modulus_of function_of self.new ≡ (new_file (kept modulus_of function_of self.old) (content memory.old) bytes.now secret spot).kept }
+        ensures memory { content memory.new ≡ (new_file (kept F.modulus_of F.function_of self.old) (content memory.old) bytes.now secret spot).memory }
+        ensures store { kept F.modulus_of F.function_of self.new ≡ (new_file (kept F.modulus_of F.function_of self.old) (content memory.old) bytes.now secret spot).kept }
         ensures loan { SameLoan memory.old memory.new }
     {
         write_bytes(memory.area, spot.start as usize, bytes);
@@ -91,9 +91,9 @@ impl<F: CommutingFamily> Store<F> {
         secret: Secret,
         numbers: &mut [u64],
     ) -> Result<Capability, StoreRefusal>
-        requires sizes { sizes_agree (kept modulus_of function_of self.old) (content memory.old) ≡ true }
+        requires sizes { sizes_agree (kept F.modulus_of F.function_of self.old) (content memory.old) ≡ true }
         requires full { length numbers.old ≡ 256 }
-        ensures outcome { outcome (told_as granted result) (kept modulus_of function_of self.new) (content memory.new) [] ≡ settled (kept modulus_of function_of self.old) (content memory.old) [] (attempted (kept modulus_of function_of self.old) (content memory.old) capability (create_file bytes.now secret [])) }
+        ensures outcome { outcome (told_as granted result) (kept F.modulus_of F.function_of self.new) (content memory.new) [] ≡ settled (kept F.modulus_of F.function_of self.old) (content memory.old) [] (attempted (kept F.modulus_of F.function_of self.old) (content memory.old) capability (create_file bytes.now secret [])) }
         ensures loan { SameLoan memory.old memory.new }
     {
         let _ = self.enter(memory, Asking::CreateFile, capability)?;
@@ -112,7 +112,7 @@ impl<F: CommutingFamily> Store<F> {
         secret: Secret,
         scratch: &mut [u64],
     ) -> Result<Capability, StoreRefusal>
-        ensures outcome { outcome (told_as granted result) (kept modulus_of function_of self.new) (content memory.new) scratch.new ≡ served (kept modulus_of function_of self.old) (content memory.old) capability (create_file bytes.now secret scratch.old) }
+        ensures outcome { outcome (told_as granted result) (kept F.modulus_of F.function_of self.new) (content memory.new) scratch.new ≡ served (kept F.modulus_of F.function_of self.old) (content memory.old) capability (create_file bytes.now secret scratch.old) }
         ensures loan { SameLoan memory.old memory.new }
     {
         if !self.sizes_agree(memory) || scratch.len() != SETS {

@@ -57,7 +57,7 @@ impl<F: CommutingFamily> Store<F> {
 
     /// Destroys where sizes are right.
     fn try_destroy(&self, memory: &mut Memory, capability: Capability) -> Result<(), StoreRefusal>
-        ensures outcome { outcome (told_as (λ _. done) result) (kept modulus_of function_of self.now) (content memory.new) [] ≡ settled (kept modulus_of function_of self.now) (content memory.old) [] (attempted (kept modulus_of function_of self.now) (content memory.old) capability destroy) }
+        ensures outcome { outcome (told_as (λ _. done) result) (kept F.modulus_of F.function_of self.now) (content memory.new) [] ≡ settled (kept F.modulus_of F.function_of self.now) (content memory.old) [] (attempted (kept F.modulus_of F.function_of self.now) (content memory.old) capability destroy) }
         ensures loan { SameLoan memory.old memory.new }
     {
         let target = self.enter(memory, Asking::Destroy, capability)?;
@@ -68,7 +68,7 @@ impl<F: CommutingFamily> Store<F> {
 
     /// Destroys a file or a directory without rows.
     pub fn destroy(&self, memory: &mut Memory, capability: Capability) -> Result<(), StoreRefusal>
-        ensures outcome { outcome (told_as (λ _. done) result) (kept modulus_of function_of self.now) (content memory.new) [] ≡ served (kept modulus_of function_of self.now) (content memory.old) capability destroy }
+        ensures outcome { outcome (told_as (λ _. done) result) (kept F.modulus_of F.function_of self.now) (content memory.new) [] ≡ served (kept F.modulus_of F.function_of self.now) (content memory.old) capability destroy }
         ensures loan { SameLoan memory.old memory.new }
     {
         if !self.sizes_agree(memory) {

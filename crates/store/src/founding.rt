@@ -28,8 +28,8 @@ impl<F: CommutingFamily> Store<F> {
         scratch: &mut [u64],
     ) -> Result<usize, StoreRefusal>
         requires { length scratch.old ≡ 256 }
-        ensures value { result ≡ place_for (kept modulus_of function_of self.now) (content memory.now) secret }
-        ensures words { IfOk result (RightPlace (kept modulus_of function_of self.now) (content memory.now) secret) }
+        ensures value { result ≡ place_for (kept F.modulus_of F.function_of self.now) (content memory.now) secret }
+        ensures words { IfOk result (RightPlace (kept F.modulus_of F.function_of self.now) (content memory.now) secret) }
     {
         if is_fit(&self.gate.family, secret, scratch) != Some(true) {
             return Err(StoreRefusal::UnfitSecret);
@@ -43,8 +43,8 @@ impl<F: CommutingFamily> Store<F> {
     /// Writes the record of a new directory.
     fn write_directory(&mut self, memory: &mut Memory, place: usize, secret: Secret)
         requires { place < length memory.old.directories.now }
-        ensures memory { content memory.new ≡ (new_directory (kept modulus_of function_of self.old) (content memory.old) secret place).memory }
-        ensures store { (kept modulus_of function_of self.new) ≡ (new_directory (kept modulus_of function_of self.old) (content memory.old) secret place).kept }
+        ensures memory { content memory.new ≡ (new_directory (kept F.modulus_of F.function_of self.old) (content memory.old) secret place).memory }
+        ensures store { (kept F.modulus_of F.function_of self.new) ≡ (new_directory (kept F.modulus_of F.function_of self.old) (content memory.old) secret place).kept }
         ensures loan { SameLoan memory.old memory.new }
     {
         let new = memory.directories[place].made(secret);
@@ -59,9 +59,9 @@ impl<F: CommutingFamily> Store<F> {
         secret: Secret,
         numbers: &mut [u64],
     ) -> Result<Capability, StoreRefusal>
-        requires sizes { sizes_agree (kept modulus_of function_of self.old) (content memory.old) ≡ true }
+        requires sizes { sizes_agree (kept F.modulus_of F.function_of self.old) (content memory.old) ≡ true }
         requires full { length numbers.old ≡ 256 }
-        ensures outcome { outcome (told_as granted result) (kept modulus_of function_of self.new) (content memory.new) [] ≡ settled (kept modulus_of function_of self.old) (content memory.old) [] (attempted (kept modulus_of function_of self.old) (content memory.old) capability (create_directory secret [])) }
+        ensures outcome { outcome (told_as granted result) (kept F.modulus_of F.function_of self.new) (content memory.new) [] ≡ settled (kept F.modulus_of F.function_of self.old) (content memory.old) [] (attempted (kept F.modulus_of F.function_of self.old) (content memory.old) capability (create_directory secret [])) }
         ensures loan { SameLoan memory.old memory.new }
     {
         let _ = self.enter(memory, Asking::CreateDirectory, capability)?;
@@ -80,7 +80,7 @@ impl<F: CommutingFamily> Store<F> {
         secret: Secret,
         scratch: &mut [u64],
     ) -> Result<Capability, StoreRefusal>
-        ensures outcome { outcome (told_as granted result) (kept modulus_of function_of self.new) (content memory.new) scratch.new ≡ served (kept modulus_of function_of self.old) (content memory.old) capability (create_directory secret scratch.old) }
+        ensures outcome { outcome (told_as granted result) (kept F.modulus_of F.function_of self.new) (content memory.new) scratch.new ≡ served (kept F.modulus_of F.function_of self.old) (content memory.old) capability (create_directory secret scratch.old) }
         ensures loan { SameLoan memory.old memory.new }
     {
         if !self.sizes_agree(memory) || scratch.len() != SETS {

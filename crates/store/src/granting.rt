@@ -13,8 +13,8 @@ impl<F: CommutingFamily> Store<F> {
     /// The owner capability of the object with a number, from a fit secret.
     pub(crate) fn grant(&self, number: u64, secret: Secret) -> Capability
         requires narrow { number < 2 ^ 24 }
-        requires fit { fit_for (kept modulus_of function_of self.now) secret ≡ true }
-        ensures { result ≡ grant_of (kept modulus_of function_of self.now) number secret }
+        requires fit { fit_for (kept F.modulus_of F.function_of self.now) secret ≡ true }
+        ensures { result ≡ grant_of (kept F.modulus_of F.function_of self.now) number secret }
     {
         let object = Object::new(number).unwrap();
         secret.owner(self.gate.port, object).unwrap()

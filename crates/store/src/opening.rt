@@ -39,9 +39,9 @@ impl<F: CommutingFamily + Drop> Store<F> {
     /// A store over memory of these sizes, with fit secret.
     fn found(family: F, port: Port, secret: Secret, memory: &Memory) -> Opened<F>
         requires sizes { lawful_sizes (content memory.now) ≡ true }
-        requires fit { is_fit (modulus_of family) (function_of family) secret.value ≡ true }
-        ensures store { kept modulus_of function_of result.store ≡ new_store (modulus_of family) (function_of family) port secret (content memory.now) }
-        ensures owner { result.owner ≡ grant_of (new_store (modulus_of family) (function_of family) port secret (content memory.now)) 0 secret }
+        requires fit { is_fit (F.modulus_of family) (F.function_of family) secret.value ≡ true }
+        ensures store { kept F.modulus_of F.function_of result.store ≡ new_store (F.modulus_of family) (F.function_of family) port secret (content memory.now) }
+        ensures owner { result.owner ≡ grant_of (new_store (F.modulus_of family) (F.function_of family) port secret (content memory.now)) 0 secret }
     {
         let store = Store {
             gate: Gate {
@@ -69,8 +69,8 @@ impl<F: CommutingFamily + Drop> Store<F> {
     ) -> Result<Opened<F>, StoreRefusal>
         requires sizes { lawful_sizes (content memory.old) ≡ true }
         requires full { length numbers.old ≡ 256 }
-        ensures answer { opened_as modulus_of function_of (content memory.new) result ≡ founding (modulus_of family) (function_of family) port secret (content memory.old) }
-        ensures memory { (content memory.new) ≡ memory_opened (content memory.old) (founding (modulus_of family) (function_of family) port secret (content memory.old)) }
+        ensures answer { opened_as F.modulus_of F.function_of (content memory.new) result ≡ founding (F.modulus_of family) (F.function_of family) port secret (content memory.old) }
+        ensures memory { (content memory.new) ≡ memory_opened (content memory.old) (founding (F.modulus_of family) (F.function_of family) port secret (content memory.old)) }
         ensures loan { SameLoan memory.old memory.new }
     {
         if is_fit(&family, secret, numbers) != Some(true) {
@@ -89,8 +89,8 @@ impl<F: CommutingFamily + Drop> Store<F> {
         memory: &mut Memory,
         scratch: &mut [u64],
     ) -> Result<Opened<F>, StoreRefusal>
-        ensures answer { opened_as modulus_of function_of (content memory.new) result ≡ opening (modulus_of family) (function_of family) port secret (content memory.old) scratch.old }
-        ensures memory { (content memory.new) ≡ memory_opened (content memory.old) (opening (modulus_of family) (function_of family) port secret (content memory.old) scratch.old) }
+        ensures answer { opened_as F.modulus_of F.function_of (content memory.new) result ≡ opening (F.modulus_of family) (F.function_of family) port secret (content memory.old) scratch.old }
+        ensures memory { (content memory.new) ≡ memory_opened (content memory.old) (opening (F.modulus_of family) (F.function_of family) port secret (content memory.old) scratch.old) }
         ensures scratch { scratch.new ≡ scratch_opened (content memory.old) scratch.old }
         ensures loan { SameLoan memory.old memory.new }
     {

@@ -22,7 +22,7 @@ impl<F: CommutingFamily> Store<F> {
         asking: Asking,
         capability: Capability,
     ) -> Result<FileRecord, StoreRefusal>
-        ensures value { result ≡ file_entered (kept modulus_of function_of self.now) (content memory.now) asking capability }
+        ensures value { result ≡ file_entered (kept F.modulus_of F.function_of self.now) (content memory.now) asking capability }
         ensures within { IfOk result (λ f. f.start + f.length ≤ length memory.now.area.now) }
     {
         if !self.sizes_agree(memory) {
@@ -40,7 +40,7 @@ impl<F: CommutingFamily> Store<F> {
         memory: &'a Memory,
         capability: Capability,
     ) -> Result<&'a [u8], StoreRefusal>
-        ensures { told_as the_bytes (shown result) ≡ (served (kept modulus_of function_of self.now) (content memory.now) capability read).answer }
+        ensures { told_as the_bytes (shown result) ≡ (served (kept F.modulus_of F.function_of self.now) (content memory.now) capability read).answer }
     {
         let file = self.enter_file(memory, Asking::Read, capability)?;
         let start = file.start as usize;
@@ -50,7 +50,7 @@ impl<F: CommutingFamily> Store<F> {
 
     /// The length of a file.
     pub fn size(&self, memory: &Memory, capability: Capability) -> Result<u64, StoreRefusal>
-        ensures { told_as the_size result ≡ (served (kept modulus_of function_of self.now) (content memory.now) capability size).answer }
+        ensures { told_as the_size result ≡ (served (kept F.modulus_of F.function_of self.now) (content memory.now) capability size).answer }
     {
         let file = self.enter_file(memory, Asking::Size, capability)?;
         Ok(file.length)

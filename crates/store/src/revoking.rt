@@ -23,7 +23,7 @@ impl<F: CommutingFamily> Store<F> {
     /// Whether the secret is fit, and not the one that the object has.
     fn is_fresh(&self, target: Target, secret: Secret, scratch: &mut [u64]) -> bool
         requires { length scratch.old ≡ 256 }
-        ensures { result ≡ fresh (kept modulus_of function_of self.now) target secret }
+        ensures { result ≡ fresh (kept F.modulus_of F.function_of self.now) target secret }
     {
         if is_fit(&self.gate.family, secret, scratch) != Some(true) {
             return false;
@@ -33,8 +33,8 @@ impl<F: CommutingFamily> Store<F> {
 
     /// The object's number.
     fn number_of(&self, target: Target) -> u64
-        requires { number_of (kept modulus_of function_of self.now) target < 2 ^ 24 }
-        ensures { result ≡ number_of (kept modulus_of function_of self.now) target }
+        requires { number_of (kept F.modulus_of F.function_of self.now) target < 2 ^ 24 }
+        ensures { result ≡ number_of (kept F.modulus_of F.function_of self.now) target }
     {
         match target {
             Target::Itself => 0,
@@ -46,7 +46,7 @@ impl<F: CommutingFamily> Store<F> {
     /// Gives the object another secret.
     fn renew(&mut self, memory: &mut Memory, target: Target, secret: Secret)
         ensures memory { (content memory.new) ≡ held_anew (content memory.old) secret target }
-        ensures store { (kept modulus_of function_of self.new) ≡ kept_anew (kept modulus_of function_of self.old) secret target }
+        ensures store { (kept F.modulus_of F.function_of self.new) ≡ kept_anew (kept F.modulus_of F.function_of self.old) secret target }
         ensures loan { SameLoan memory.old memory.new }
     {
         match target {
@@ -73,9 +73,9 @@ impl<F: CommutingFamily> Store<F> {
         secret: Secret,
         numbers: &mut [u64],
     ) -> Result<Capability, StoreRefusal>
-        requires sizes { sizes_agree (kept modulus_of function_of self.old) (content memory.old) ≡ true }
+        requires sizes { sizes_agree (kept F.modulus_of F.function_of self.old) (content memory.old) ≡ true }
         requires full { length numbers.old ≡ 256 }
-        ensures outcome { outcome (told_as granted result) (kept modulus_of function_of self.new) (content memory.new) [] ≡ settled (kept modulus_of function_of self.old) (content memory.old) [] (attempted (kept modulus_of function_of self.old) (content memory.old) capability (revoke secret [])) }
+        ensures outcome { outcome (told_as granted result) (kept F.modulus_of F.function_of self.new) (content memory.new) [] ≡ settled (kept F.modulus_of F.function_of self.old) (content memory.old) [] (attempted (kept F.modulus_of F.function_of self.old) (content memory.old) capability (revoke secret [])) }
         ensures loan { SameLoan memory.old memory.new }
     {
         let target = self.enter(memory, Asking::Revoke, capability)?;
@@ -95,7 +95,7 @@ impl<F: CommutingFamily> Store<F> {
         secret: Secret,
         scratch: &mut [u64],
     ) -> Result<Capability, StoreRefusal>
-        ensures outcome { outcome (told_as granted result) (kept modulus_of function_of self.new) (content memory.new) scratch.new ≡ served (kept modulus_of function_of self.old) (content memory.old) capability (revoke secret scratch.old) }
+        ensures outcome { outcome (told_as granted result) (kept F.modulus_of F.function_of self.new) (content memory.new) scratch.new ≡ served (kept F.modulus_of F.function_of self.old) (content memory.old) capability (revoke secret scratch.old) }
         ensures loan { SameLoan memory.old memory.new }
     {
         if !self.sizes_agree(memory) || scratch.len() != SETS {

@@ -55,7 +55,7 @@ impl<F: CommutingFamily> Store<F> {
         capability: Capability,
         request: Request,
     ) -> Result<Answer, StoreRefusal>
-        ensures outcome { outcome (told_as (tell_in memory.new.area.now) result) (kept modulus_of function_of self.new) (content memory.new) (left_in request.exit) ≡ served (kept modulus_of function_of self.old) (content memory.old) capability (ask_of request.entry) }
+        ensures outcome { outcome (told_as (tell_in memory.new.area.now) result) (kept F.modulus_of F.function_of self.new) (content memory.new) (left_in request.exit) ≡ served (kept F.modulus_of F.function_of self.old) (content memory.old) capability (ask_of request.entry) }
         ensures loan { SameLoan memory.old memory.new }
     {
         match request {
@@ -78,7 +78,7 @@ impl<F: CommutingFamily> Store<F> {
 
     /// Where a file's bytes lie.
     fn tell_part(&self, memory: &Memory, capability: Capability) -> Result<Answer, StoreRefusal>
-        ensures { told_as (tell_in memory.now.area.now) result ≡ (served (kept modulus_of function_of self.now) (content memory.now) capability read).answer }
+        ensures { told_as (tell_in memory.now.area.now) result ≡ (served (kept F.modulus_of F.function_of self.now) (content memory.now) capability read).answer }
     {
         match self.enter_file(memory, Asking::Read, capability) {
             Ok(file) => Ok(Answer::Part {

@@ -25,7 +25,7 @@ pub(crate) fn replace<R: Record>(records: &mut [R], next: usize, place: usize, r
 
 /// Frees the record at a place.
 pub(crate) fn free<R: Record>(records: &mut [R], next: usize, place: usize)
-    ensures { records.new ≡ freed blank_of records.old place }
+    ensures { records.new ≡ freed R.blank_of records.old place }
 {
     let mut table = Table::resume(records, next);
     let _ = table.free(place);
