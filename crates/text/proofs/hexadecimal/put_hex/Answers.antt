@@ -15,7 +15,7 @@ returns-then-at-out c =
     record {
       gives = sym none.0;
       leaves = sym none.1;
-      back = written_read bytes (λ i. omega (arith, c.ok.bytes i));
+      back = written_read bytes (λ i. omega (arith, c.type_inv.bytes i));
     }
 
 pub loop-b-init : goal.loop-b-init
@@ -53,5 +53,5 @@ returns c =
       leaves =
           c.loop-b.invariant.1 ∙ ap (paste out at (hex_text bytes)) past
           ∙ paste_all out at (hex_text bytes) (length (hex_text bytes)) refl ∙ sym all.1;
-      back = written_read bytes (λ i. omega (arith, c.ok.bytes i));
+      back = written_read bytes (λ i. omega (arith, c.type_inv.bytes i));
     }
