@@ -14,7 +14,7 @@ use refusal::{Refusal, Refuse};
 
 /// The request's capability, thinned in this family.
 fn thin_in<F: CommutingFamily>(family: &F, request: Request) -> Result<Capability, Refusal>
-    ensures { result ≡ refused_as holder_refusal (thinned (modulus_of family.now) (function_of family.now) request.capability request.mask.bits) }
+    ensures { result ≡ refused_as holder_refusal (thinned (F.modulus_of family.now) (F.function_of family.now) request.capability request.mask.bits) }
 {
     match request.capability.thin_to(family, request.mask) {
         Ok(rest) => Ok(rest),
