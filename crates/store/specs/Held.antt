@@ -1,7 +1,7 @@
 -- What the code's values stand for.
 use Rattle.std.specs.Prelude.{ℕ, ◌⊎◌, List, [], Ok, Err, Result}
 use Rattle.std.proofs.Common.{inl, inr}
-use Rattle.std.specs.Borrow.{Bor}
+use Rattle.std.specs.Borrow.{Bor, MutBor}
 use Rattle.memory.specs.Soundness.{Content}
 use Rattle.store.specs.Changes.{Change, change}
 use Rattle.store.specs.Kept.{Kept}
@@ -45,7 +45,7 @@ ask_of (Revoke secret scratch) = revoke secret scratch.now
 
 -- a secret and a scratch, as the cases of a request hold them
 abbrev pub WithSecret : Type 0
-WithSecret = (ℕ × Unit {0}) × (Bor (List ℕ) × Unit {0})
+WithSecret = (ℕ × Unit {0}) × (MutBor (List ℕ) × Unit {0})
 
 -- a request once it is served, case by case: only what was lent for writing can have changed
 abbrev pub Spent : Type 0
