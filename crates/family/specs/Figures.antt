@@ -3,8 +3,8 @@ use Rattle.std.specs.Prelude.{◌≡◌, ℕ, List, [], ◌∷◌}
 use Rattle.family.specs.Fit.{Fit}
 use Rattle.family.specs.declared.modular_powers.Powers.{Powers}
 use Rattle.family.specs.declared.dickson_polynomials.Dickson.{Dickson}
-use Rattle.family.specs.contracts.modular_powers.PowersCommutingFamily.TheImpl.{ghosts as inPowers}
-use Rattle.family.specs.contracts.dickson_polynomials.DicksonCommutingFamily.TheImpl.{ghosts as inDickson}
+use Rattle.family.specs.contracts.modular_powers.PowersCommutingFamily.TheImpl.{ghosts as in_powers}
+use Rattle.family.specs.contracts.dickson_polynomials.DicksonCommutingFamily.TheImpl.{ghosts as in_dickson}
 
 pub data Figure : Type 0 where
   -- over the modulus n, the functions of the listed rights, one after the other, lead from v to w
@@ -20,10 +20,10 @@ in_turn f [] v = v
 in_turn f (k ∷ ks) v = in_turn f ks (f k v)
 
 abbrev pub Holds : Figure → Type 0
-Holds (powers_lead n ks v w) = (p : Powers) → inPowers.modulus_of p ≡ n → in_turn (inPowers.function_of p) ks v ≡ w
-Holds (dickson_leads n ks v w) = (d : Dickson) → inDickson.modulus_of d ≡ n → in_turn (inDickson.function_of d) ks v ≡ w
-Holds (unfit_in_powers s) = (p : Powers) → Fit (inPowers.modulus_of p) (inPowers.function_of p) s → ⊥
-Holds (unfit_in_dickson s) = (d : Dickson) → Fit (inDickson.modulus_of d) (inDickson.function_of d) s → ⊥
+Holds (powers_lead n ks v w) = (p : Powers) → in_powers.modulus_of p ≡ n → in_turn (in_powers.function_of p) ks v ≡ w
+Holds (dickson_leads n ks v w) = (d : Dickson) → in_dickson.modulus_of d ≡ n → in_turn (in_dickson.function_of d) ks v ≡ w
+Holds (unfit_in_powers s) = (p : Powers) → Fit (in_powers.modulus_of p) (in_powers.function_of p) s → ⊥
+Holds (unfit_in_dickson s) = (d : Dickson) → Fit (in_dickson.modulus_of d) (in_dickson.function_of d) s → ⊥
 
 abbrev pub Each : List Figure → Type 0
 Each [] = Unit {0}

@@ -1,6 +1,6 @@
 //! Examples of both families, and a family of the test's own.
 ghost use Rattle.std.specs.Prelude.{◌≤◌};
-ghost use Rattle.std.proofs.Common.{rules, arith};
+ghost use Rattle.std.proofs.Common.{rules};
 
 use crate::commuting::CommutingFamily;
 use crate::dickson_polynomials::Dickson;
@@ -27,13 +27,13 @@ impl CommutingFamily for Unmoving {
 
     ghost function_of = { λ s k v. v };
 
-    ghost least = { first_of (Prim.search rules, Prim.grind (arith, Self.row.coded.inj)) };
+    ghost least = { Prim.search rules };
 
-    ghost most = { first_of (Prim.search rules, Prim.grind (arith, Self.row.coded.inj)) };
+    ghost most = { Prim.search rules };
 
-    ghost within = { first_of (Prim.search rules, Prim.grind (arith, Self.row.coded.inj)) };
+    ghost within = { Prim.search rules };
 
-    ghost commutes = { first_of (Prim.search rules, Prim.grind (arith, Self.row.coded.inj)) };
+    ghost commutes = { Prim.search rules };
 
     fn its_letter() -> char {
         Self::LETTER

@@ -2,12 +2,12 @@
 use Rattle.std.proofs.Common.{◌≡◌, ℕ, zero, suc, ◌+◌, ◌*◌, ◌/◌, ◌%◌, ◌^◌, ◌<◌, List, [], ◌∷◌, length, sym, refl, ap, ◌∙◌, mod-lt, mod-eq_of_lt, arith, pow-add}
 use native.Mathlib.Nat.{mod-one}
 use lib.Pow.{mod-pow-add}
-use Rattle.std.specs.List.{AllByRecursion as All}
+use Rattle.std.specs.List.{AllByRecursion}
 use Rattle.std.proofs.lemmas.Nat.{mul-add-lt, shr_high, mod_low}
 use Rattle.holder.specs.Bytes.{number, bytes_of}
 
 abbrev pub Bytes : List ℕ → Type 0
-Bytes bs = All (λ b. b < 256) bs
+Bytes bs = AllByRecursion (λ b. b < 256) bs
 
 pub length-bytes_of : (w n : ℕ) → length (bytes_of w n) ≡ w
 length-bytes_of zero n = refl

@@ -3,7 +3,7 @@ use Rattle.std.proofs.Common.{◌≡◌, ℕ, ◌-◌, ◌<◌, ◌≤◌, Bool,
 use lib.Bits.{bit_and, and_comm}
 use Rattle.std.proofs.ByRecursion.{all_kept_by}
 use Rattle.std.proofs.lemmas.Bool.{lt-ltb, le-ltb, cases_lt, eqb-true, false≢true}
-use Rattle.std.specs.List.{AllByRecursion as All}
+use Rattle.std.specs.List.{AllByRecursion}
 use Rattle.refusal.specs.Chains.{unless, and_then}
 use Rattle.family.specs.Rights.{has, missing, none, union}
 use Rattle.family.specs.Commuting.{Commuting}
@@ -104,7 +104,7 @@ mask_outside : (m : ℕ) → m < 256 → mask_but (outside m) ≡ m
 unfolding outside
 mask_outside m h = eqb-true (mask_but (outside m)) m (at_each (λ a. eqb (mask_but (outside a)) a) 256 refl m h)
 
-rights_outside : (m : ℕ) → All (λ k. k < 8) (outside m)
+rights_outside : (m : ℕ) → AllByRecursion (λ k. k < 8) (outside m)
 unfolding outside
 rights_outside m = all_kept_by (missing m) (λ k. k < 8) (0 ∷ 1 ∷ 2 ∷ 3 ∷ 4 ∷ 5 ∷ 6 ∷ 7 ∷ []) (omega arith)
 
@@ -191,7 +191,7 @@ module _ (n : ℕ) (f : ℕ → ℕ → ℕ) (family : Commuting n f) where
   pub any_order : (c : Capability) (k : ℕ) → Whole c → AnyOrder n f c k
   any_order c k w = λ j p q. two_drops c k j w q p ∙ ap (thinned n f c) (and_comm (all_but k) (all_but j)) ∙ sym (two_drops c j k w p q)
 
-  each_dropped : (ks : List ℕ) (c : Capability) → Whole c → All (λ k. k < 8) ks → check_number c < n → dropped_each n f c ks ≡ thinned n f c (mask_but ks)
+  each_dropped : (ks : List ℕ) (c : Capability) → Whole c → AllByRecursion (λ k. k < 8) ks → check_number c < n → dropped_each n f c ks ≡ thinned n f c (mask_but ks)
   each_dropped [] c w p h =
       sym (thinned_ok c 255 h ∙ ap Ok (kept_all c 255 w (omega arith) (λ k q. has_lost c.rights.bits 255 k (omega arith) q ∙ full (has c.rights.bits k) (has 255 k) (at_each (λ j. has 255 j) 8 refl k q))))
     where

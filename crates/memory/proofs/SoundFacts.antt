@@ -1,6 +1,6 @@
 -- The test of memory decides soundness in words.
 use Rattle.std.proofs.Common.{◌≡◌, ℕ, ◌+◌, ◌≤◌, Bool, true, false, not, ◌||◌, eqb, leb, List, [], ◌∷◌, length, take, drop, Decides, refl}
-use Rattle.std.specs.List.{AllByRecursion as All}
+use Rattle.std.specs.List.{AllByRecursion}
 use Rattle.std.proofs.lemmas.Bool.{false≢true, leb-true, le-leb}
 use Rattle.std.proofs.lemmas.Bool.Decides.{Decides-and, Decides-not, Decides-eqb, Decides-ltb, Decides-like}
 use Rattle.std.proofs.ByRecursion.{Decides-by_and}
@@ -15,7 +15,7 @@ use Rattle.memory.proofs.PlaceFacts.{clear_decides}
 use Rattle.memory.proofs.Same.{same_true, same_equal}
 
 -- whole lists
-decides_every : {A : Type 0} (p : A → Bool) (P : A → Type 0) → ((x : A) → Decides (p x) (P x)) → (xs : List A) → Decides (every p xs) (All P xs)
+decides_every : {A : Type 0} (p : A → Bool) (P : A → Type 0) → ((x : A) → Decides (p x) (P x)) → (xs : List A) → Decides (every p xs) (AllByRecursion P xs)
 decides_every p P d xs = Decides-by_and p P (every p) d refl (λ _ _. refl) xs
 
 decides_pairs : {A : Type 0} (q : A → A → Bool) (Q : A → A → Type 0) → ((x y : A) → Decides (q x y) (Q x y)) → (xs : List A) → Decides (pairwise q xs) (EachTwo Q xs)

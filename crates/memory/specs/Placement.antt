@@ -2,7 +2,7 @@
 use Rattle.std.specs.Prelude.{◌≡◌, ℕ, ◌+◌, ◌<◌, ◌≤◌, Bool, cond, ◌&&◌, List, Some, None, Option, ◌==◌, nat_le}
 use Rattle.memory.specs.Every.{every}
 use Rattle.table.specs.Lowest.{lowest}
-use Rattle.std.specs.List.{AllByRecursion as All}
+use Rattle.std.specs.List.{AllByRecursion}
 use Rattle.memory.specs.Parts.{clear_of, ClearOf}
 use Rattle.memory.specs.declared.records.FileRecord.{FileRecord}
 
@@ -16,7 +16,7 @@ placed files area length = cond (length == 0) (Some 0) (lowest (allowed files ar
 
 -- the same in words: all bytes lie in the area, and none of them in a live file
 abbrev pub Allowed : List FileRecord → ℕ → ℕ → ℕ → Type 0
-Allowed files area length start = (start + length ≤ area) × All (ClearOf start length) files
+Allowed files area length start = (start + length ≤ area) × AllByRecursion (ClearOf start length) files
 
 -- what is promised of a new file's start
 pub record Placed (files : List FileRecord) (area length : ℕ) (r : Option ℕ) : Type 0 where

@@ -1,9 +1,9 @@
 //! restrict: gives up rights of a capability, on a laptop, with no connection.
 #![tactic(auto)]
 
-use anyhow::anyhow;
 use restriction::{Failure, restrict_words};
 use std::env;
+use std::process::ExitCode;
 use text::RefusalLine;
 
 const USAGE: &str = "usage: restrict LETTER MODULUS CAPABILITY MASK
@@ -28,7 +28,7 @@ fn run(
     modulus: &str,
     capability: &str,
     mask: &str,
-) -> anyhow::Result<()> {
+) -> anyhow::Result<ExitCode> {
     let answer = restrict_words(
         letter.as_bytes(),
         modulus.as_bytes(),
@@ -38,25 +38,25 @@ fn run(
     match answer {
         Ok(report) => {
             rt.print(report)?;
-            Ok(())
+            Ok(ExitCode::SUCCESS)
         }
         Err(Failure::Refused(refusal)) => {
             rt.println(RefusalLine { refusal })?;
-            Err(anyhow!("refused"))
+            Ok(ExitCode::FAILURE)
         }
         Err(Failure::Misused(misuse)) => {
             eprint!(rt; "restrict: {misuse}\n\n{USAGE}")?;
-            Err(anyhow!("misused"))
+            Ok(ExitCode::FAILURE)
         }
     }
 }
 
-fn main(rt: HostRuntime) -> anyhow::Result<()> {
+fn main(rt: HostRuntime) -> anyhow::Result<ExitCode> {
     let words: Vec<String> = env::args(&rt)?.collect(rt.alloc())?;
     match words.as_slice() {
         [_, help] if help.as_str() == "--help" => {
             rt.print(USAGE)?;
-            Ok(())
+            Ok(ExitCode::SUCCESS)
         }
         [_, letter, modulus, capability, mask] => {
             run(
@@ -69,7 +69,7 @@ fn main(rt: HostRuntime) -> anyhow::Result<()> {
         }
         _ => {
             eprint!(rt; "{USAGE}")?;
-            Err(anyhow!("misused"))
+            Ok(ExitCode::FAILURE)
         }
     }
 }

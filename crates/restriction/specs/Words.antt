@@ -1,8 +1,8 @@
 -- The four words of the command, read: the family's letter, its modulus, the capability and the mask.
 use Rattle.std.specs.Prelude.{ℕ, cond, ◌&&◌, List, length, Some, None, Ok, Option, Result, ◌==◌, slice_index}
 use Rattle.refusal.specs.Chains.{given}
-use Rattle.family.specs.contracts.modular_powers.PowersCommutingFamily.TheImpl.{ghosts as inPowers}
-use Rattle.family.specs.contracts.dickson_polynomials.DicksonCommutingFamily.TheImpl.{ghosts as inDickson}
+use Rattle.family.specs.contracts.modular_powers.PowersCommutingFamily.TheImpl.{ghosts as in_powers}
+use Rattle.family.specs.contracts.dickson_polynomials.DicksonCommutingFamily.TheImpl.{ghosts as in_dickson}
 use Rattle.holder.specs.Layout.{parts}
 use Rattle.text.specs.Decimal.{read_decimal}
 use Rattle.text.specs.Hex.{read_hex}
@@ -15,8 +15,8 @@ use Rattle.restriction.specs.declared.request.Request.{Request}
 -- the letter of a family, alone in its word
 abbrev pub read_letter : List ℕ → Option FamilyLetter
 read_letter word =
-    cond (length word == 1 && slice_index word 0 == inPowers.letter) (Some P)
-    (cond (length word == 1 && slice_index word 0 == inDickson.letter) (Some D) None)
+    cond (length word == 1 && slice_index word 0 == in_powers.letter) (Some P)
+    (cond (length word == 1 && slice_index word 0 == in_dickson.letter) (Some D) None)
 
 -- the request, or the first word from the left that cannot be read
 abbrev pub as_request : List ℕ → List ℕ → List ℕ → List ℕ → Result Request Misuse

@@ -1,6 +1,6 @@
 -- What a request comes to that is not refused, case by case.
 use Rattle.std.proofs.Common.{◌≡◌, ℕ, true, false, eqb, List, length, Some, Ok, sym, ap, ◌∙◌, subst}
-use Rattle.std.specs.List.{AllByRecursion as All}
+use Rattle.std.specs.List.{AllByRecursion}
 use Rattle.std.proofs.lemmas.Bool.{and_parts}
 use Rattle.refusal.proofs.ChainFacts.{same_ok, never_ok, unless_ok, and_then_ok, given_ok}
 use Rattle.holder.specs.declared.capability.Capability.{Capability}
@@ -52,7 +52,7 @@ module _ (k : Kept) (m : Content) where
   -- the spot of a new file is right, its place is free, and it is clear of the live files
   abbrev pub FreeSpot : ℕ → Secret → Spot → Type 0
   FreeSpot len secret spot =
-      RightSpot k m len secret spot × (live_at (λ r. r.live) m.files spot.place ≡ false) × All (ClearOf spot.start len) m.files
+      RightSpot k m len secret spot × (live_at (λ r. r.live) m.files spot.place ≡ false) × AllByRecursion (ClearOf spot.start len) m.files
 
   spot_fits : (len : ℕ) (secret : Secret) (spot : Spot) → spot_for k m len secret ≡ Ok spot → FreeSpot len secret spot
   spot_fits len secret spot e =

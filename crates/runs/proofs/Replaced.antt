@@ -1,6 +1,6 @@
 -- Memory stays in order where one record is replaced by another.
 use Rattle.std.proofs.Common.{◌≡◌, ℕ, zero, suc, ◌+◌, ◌<◌, ◌≤◌, true, List, [], ◌∷◌, length, take, drop, set, Some, refl, ◌∙◌, subst}
-use Rattle.std.specs.List.{AllByRecursion as All, slice_get}
+use Rattle.std.specs.List.{AllByRecursion, slice_get}
 use Rattle.std.proofs.ByRecursion.{All-set}
 use Rattle.std.proofs.lemmas.List.{length-set}
 use Rattle.memory.specs.Soundness.{Content}
@@ -14,17 +14,17 @@ use Rattle.store.specs.Kept.{Kept}
 use Rattle.store.specs.Sizes.{sizes_agree}
 use Rattle.store.proofs.Apart.{all_nth, FilesApart, whole}
 
-all_apply : {A : Type 0} (P Q : A → Type 0) (xs : List A) → All (λ x. P x → Q x) xs → All P xs → All Q xs
+all_apply : {A : Type 0} (P Q : A → Type 0) (xs : List A) → AllByRecursion (λ x. P x → Q x) xs → AllByRecursion P xs → AllByRecursion Q xs
 all_apply P Q [] steps all = tt
 all_apply P Q (x ∷ xs) steps all = (steps.0 all.0, all_apply P Q xs steps.1 all.1)
 
 -- each two elements still agree, where the new one agrees with each with which the old one did
 each_two_set : {A : Type 0} (Q : A → A → Type 0) → ((x y : A) → Q x y → Q y x) → (xs : List A) (i : ℕ) (old new : A) → slice_get xs i ≡ Some old
-    → All (λ x. Q old x → Q new x) xs → EachTwo Q xs → EachTwo Q (set xs i new)
+    → AllByRecursion (λ x. Q old x → Q new x) xs → EachTwo Q xs → EachTwo Q (set xs i new)
 each_two_set Q turn [] i old new e steps each = tt
 each_two_set Q turn (x ∷ xs) zero old new e steps each =
     let same : x ≡ old = cc in
-    (all_apply (Q old) (Q new) xs steps.1 (subst (λ y. All (Q y) xs) same each.0), each.1)
+    (all_apply (Q old) (Q new) xs steps.1 (subst (λ y. AllByRecursion (Q y) xs) same each.0), each.1)
 each_two_set Q turn (x ∷ xs) (suc i) old new e steps each = (
   All-set (Q x) xs i new (turn new x (steps.0 (turn x old (all_nth (Q x) xs i old each.0 e)))) each.0,
   each_two_set Q turn xs i old new e steps.1 each.1,
@@ -64,7 +64,7 @@ module _ (k : Kept) (m : Content) (h : InOrder k m) where
   -- the new file has a secret below the modulus, lies in the area, and shares no byte with any file with which the old one shared none
   pub file_replaced : (i : ℕ) (old new : FileRecord) (area : List ℕ) → slice_get m.files i ≡ Some old → length area ≡ length m.area
       → (new.live ≡ true → new.secret.value < k.modulus) → (new.live ≡ true → new.start + new.length ≤ length m.area)
-      → All (λ r. FilesApart old r → FilesApart new r) m.files → InOrder k (with_file m i new area)
+      → AllByRecursion (λ r. FilesApart old r → FilesApart new r) m.files → InOrder k (with_file m i new area)
   file_replaced i old new area e same below within steps =
       in_order (with_file m i new area) (length-set m.files i new) refl refl same (record {
         file_secrets = All-set _ m.files i new below words.file_secrets;

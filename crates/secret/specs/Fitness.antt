@@ -1,5 +1,5 @@
 -- Fitness of a secret as a test, and what deciding it does to the scratch.
-use Rattle.std.specs.Prelude.{◌≡◌, ℕ, zero, suc, ◌<◌, Bool, true, cond, not, ◌&&◌, List, length, replicate, Some, None, Option, ◌==◌, ◌≢◌, nat_lt, slice_index}
+use Rattle.std.specs.Prelude.{ℕ, zero, suc, ◌<◌, Bool, true, cond, not, ◌&&◌, List, length, replicate, Some, None, Option, ◌==◌, ◌≢◌, nat_lt, slice_index}
 use Rattle.family.specs.Rights.{has}
 use Rattle.family.specs.Thin.{thin}
 

@@ -1,6 +1,6 @@
 -- The parts of live files: within the area and apart, from each other and from a new file.
 use Rattle.std.proofs.Common.{◌≡◌, ℕ, zero, suc, ◌+◌, ◌<◌, ◌≤◌, true, List, [], ◌∷◌, length, Some, sym, refl, subst, inl, inr, arith}
-use Rattle.std.specs.List.{AllByRecursion as All, slice_get}
+use Rattle.std.specs.List.{AllByRecursion, slice_get}
 use Rattle.std.proofs.ByRecursion.{All-from_get_or}
 use Rattle.std.proofs.lemmas.Bool.{cases_eq, cases_order}
 use Rattle.memory.specs.Parts.{InPart, ClearOf}
@@ -15,7 +15,7 @@ use Rattle.store.specs.Kept.{Kept}
 use Rattle.store.specs.Served.{sound_for}
 
 -- what holds of each element holds of the one at a place, and what holds of each two holds of those at two places
-pub all_nth : {X : Type 0} (P : X → Type 0) (xs : List X) (i : ℕ) (x : X) → All P xs → slice_get xs i ≡ Some x → P x
+pub all_nth : {X : Type 0} (P : X → Type 0) (xs : List X) (i : ℕ) (x : X) → AllByRecursion P xs → slice_get xs i ≡ Some x → P x
 all_nth P [] i x h e = absurd (let z : ◌≡◌ {A = ℕ} 0 1 = cc in omega arith)
 all_nth P (y ∷ xs) zero x h e = subst P (let s : y ≡ x = cc in s) h.0
 all_nth P (y ∷ xs) (suc i) x h e = all_nth P xs i x h.1 e
