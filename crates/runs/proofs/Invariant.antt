@@ -12,7 +12,7 @@ use Rattle.memory.specs.Soundness.{Content}
 use Rattle.admission.specs.Objects.{object_of}
 use Rattle.store.specs.Changes.{Change, settled}
 use Rattle.store.specs.Kept.{Kept, grant_of}
-use Rattle.store.specs.Requests.{Ask, create_file, create_directory, read, size, destroy, revoke, Told, granted}
+use Rattle.store.specs.Requests.{Ask, create_file, create_directory, read, size, destroy, revoke, Told}
 use Rattle.runs.specs.Seen.{Seen, the_store, a_file, a_directory, Effect, changed_by, with_secret, becomes, seen_at}
 use Rattle.store.specs.Served.{decided, scratch_after, InOrder}
 use Rattle.store.specs.declared.refusals.StoreRefusal.{StoreRefusal}
