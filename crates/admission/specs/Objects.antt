@@ -1,6 +1,5 @@
 -- Objects by number: 0 is the store, then come the files by place, then the directories.
-use Rattle.std.specs.Prelude.{ℕ, ◌-◌, cond, length, Some, Option, ◌==◌, nat_le}
-use Rattle.std.specs.Option.{option_map}
+use Rattle.std.specs.Prelude.{ℕ, ◌-◌, cond, length, Some, Option, ◌==◌, nat_le, option_map}
 use Rattle.holder.specs.Bytes.{number}
 use Rattle.holder.specs.declared.capability.Capability.{Capability}
 use Rattle.secret.specs.declared.secrets.Secret.{Secret}

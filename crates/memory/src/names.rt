@@ -1,7 +1,6 @@
 //! Names of rows: lawful or not, the same or not.
 ghost use Rattle.memory.specs.Names.{lawful_name, name_byte, named, same_bytes};
-ghost use Rattle.std.specs.Option.{option_map};
-ghost use Rattle.std.specs.Prelude.{◌≡◌};
+ghost use Rattle.std.specs.Prelude.{◌≡◌, option_map};
 
 use crate::quantified::{Rule, holds_of_each};
 

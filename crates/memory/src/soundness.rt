@@ -73,7 +73,7 @@ struct LiveSecret<'a, F> {
 }
 
 impl<F: CommutingFamily> Rule<FileRecord> for LiveSecret<'_, F> {
-    ghost passes = { λ s r. secret_below (F.CommutingFamily.modulus_of s.family.now) r.live r.secret };
+    ghost passes = { λ s r. secret_below (F.modulus_of s.family.now) r.live r.secret };
 
     fn holds(&self, item: FileRecord) -> bool {
         !item.live || item.secret.below(self.family)
@@ -81,7 +81,7 @@ impl<F: CommutingFamily> Rule<FileRecord> for LiveSecret<'_, F> {
 }
 
 impl<F: CommutingFamily> Rule<DirectoryRecord> for LiveSecret<'_, F> {
-    ghost passes = { λ s r. secret_below (F.CommutingFamily.modulus_of s.family.now) r.live r.secret };
+    ghost passes = { λ s r. secret_below (F.modulus_of s.family.now) r.live r.secret };
 
     fn holds(&self, item: DirectoryRecord) -> bool {
         !item.live || item.secret.below(self.family)

@@ -1,6 +1,5 @@
 -- What a request does to the objects: to one of them what was asked for, and to the others nothing.
-use Rattle.std.specs.Prelude.{◌≡◌, ℕ, ◌*◌, ◌≤◌, Bool, true, false, List, [], length, take, drop, Some, None, Ok, Option, ◌≢◌}
-use Rattle.std.specs.Option.{option_map}
+use Rattle.std.specs.Prelude.{◌≡◌, ℕ, ◌*◌, ◌≤◌, Bool, true, false, List, [], length, take, drop, Some, None, Ok, Option, ◌≢◌, option_map}
 use Rattle.holder.specs.declared.capability.Capability.{Capability}
 use Rattle.secret.specs.declared.secrets.Secret.{Secret}
 use Rattle.memory.specs.Soundness.{Content}

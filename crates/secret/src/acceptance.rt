@@ -30,7 +30,7 @@ impl Secret {
     /// Whether the check is the genuine one for these rights: the secret thinned by the missing ones.
     pub fn accepts<F: CommutingFamily>(self, family: &F, rights: Rights, check: Check) -> bool
         ensures value { result ≡ accepted (F.modulus_of family.now) (F.function_of family.now) self.value rights.bits (number check.bytes) }
-        ensures plain { self.value < F.modulus_of family.now → result ≡ ((number check.bytes) == thin (F.function_of family.now) self.value (missing rights.bits)) }
+        ensures plain { self.value < F.modulus_of family.now → result ≡ (number check.bytes == thin (F.function_of family.now) self.value (missing rights.bits)) }
     {
         matches(family, self.value, rights.bits, check.number())
     }

@@ -1,6 +1,5 @@
 -- A table: a list of records, each live or free, and the place after the last one given.
-use Rattle.std.specs.Prelude.{◌≡◌, ℕ, ◌+◌, ◌-◌, ◌%◌, ◌<◌, Bool, true, false, cond, not, List, length, Some, None, Option, MatchOption, ◌≢◌, nat_lt, slice_set}
-use Rattle.std.specs.List.{slice_get}
+use Rattle.std.specs.Prelude.{◌≡◌, ℕ, ◌+◌, ◌-◌, ◌%◌, ◌<◌, Bool, true, false, cond, not, List, length, Some, None, Option, MatchOption, ◌≢◌, nat_lt, slice_set, slice_get}
 use Rattle.table.specs.Lowest.{lowest}
 
 -- a record, if there is one and it is live
@@ -69,7 +68,7 @@ freed blank xs place = blanked blank xs place (slice_get xs place)
 pub record Freed {X : Type 0} (live : X → Bool) (before after : List X) (place : ℕ) : Type 0 where
   pub size : length after ≡ length before
   pub free : live_at live after place ≡ false
-  pub others : (q : ℕ) → (q ≢ place) → slice_get after q ≡ slice_get before q
+  pub others : (q : ℕ) → q ≢ place → slice_get after q ≡ slice_get before q
 
 -- where the next claim begins once a place among n was given
 abbrev pub next_after : ℕ → ℕ → ℕ → ℕ

@@ -1,6 +1,5 @@
 //! The records of a lent slice by their places, and the first free place going round.
-ghost use Rattle.std.specs.Prelude.{◌≡◌, ◌<◌, length, nat_lt, slice_set};
-ghost use Rattle.std.specs.List.{slice_get};
+ghost use Rattle.std.specs.Prelude.{◌≡◌, ◌<◌, length, nat_lt, slice_set, slice_get};
 ghost use Rattle.table.specs.Lowest.{IsLowest};
 ghost use Rattle.table.specs.Table.{Claimed, Found, claimed, found, free_on, freed, live_at, place_on};
 
