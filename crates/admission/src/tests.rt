@@ -123,6 +123,28 @@ fn kinds_before_rights(rt: HostRuntime) -> Result<(), Fail> {
 }
 
 #[test]
+fn rights_after_kinds(rt: HostRuntime) -> Result<(), Fail> {
+    // right 0 dropped: modulo 101, 3 to the power 5 is 41, and 5 to the power 5 is 95
+    let rights = Rights { bits: 254 };
+    let file = Capability {
+        rights,
+        ..owner(1, 41)
+    };
+    assert_eq!(rt; denied(Asking::Read, file)?, Some(Denial::RightMissing));
+    assert_eq!(rt; denied(Asking::Size, file)?, None);
+    let directory = Capability {
+        rights,
+        ..owner(3, 95)
+    };
+    assert_eq!(rt;
+        denied(Asking::Read, directory)?,
+        Some(Denial::WrongKind),
+        "the kind is judged first"
+    );
+    Ok(())
+}
+
+#[test]
 fn denials_as_plain_values(rt: HostRuntime) {
     let r = Denial::WrongKind.at(3);
     assert_eq!(rt; (r.number, r.layer, r.place), (14, Layer::Store, 3));
