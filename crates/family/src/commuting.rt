@@ -1,14 +1,13 @@
 //! What a family of commuting functions is.
-ghost use Rattle.std.specs.Prelude.{◌≡◌, ℕ, ◌^◌, ◌<◌, ◌≤◌};
-ghost use Rattle.family.specs.Commuting.{asked};
+ghost use Rattle.std.specs.Prelude.{◌≡◌, ℕ, ◌<◌};
+ghost use Rattle.family.specs.Commuting.{Commuting, asked};
 
 /// A modulus n and eight functions f_0 to f_7 on the numbers below n that commute, one for each right.
 pub trait CommutingFamily {
     /// The family's letter, the same for all its values.
     const LETTER: char;
 
-    /// What the letter is.
-    ghost letter: { ℕ };
+    ghost LETTER: { ℕ };
 
     /// The modulus n.
     ghost modulus_of: { Self → ℕ };
@@ -18,21 +17,31 @@ pub trait CommutingFamily {
 
     /// The letter, for code that knows of the family only this trait.
     fn its_letter() -> char
-        ensures { result ≡ letter };
+        ensures { result ≡ LETTER }
+    {
+        Self::LETTER
+    }
 
     /// The modulus n.
     fn modulus(&self) -> u64
         ensures { result ≡ modulus_of self.now };
 
+    /// f_k(v), for a right k and a number v below n.
+    fn value(&self, k: u64, v: u64) -> u64
+        requires right { k < 8 }
+        requires below { v < modulus_of self.now }
+        ensures { result ≡ function_of self.now k v };
+
     /// f_k(v), or v itself where k is above 7 or v is not below n.
     fn apply(&self, k: u64, v: u64) -> u64
-        ensures { result ≡ asked (modulus_of self.now) (function_of self.now) k v };
+        ensures { result ≡ asked (modulus_of self.now) (function_of self.now) k v }
+    {
+        if k > 7 || v >= self.modulus() {
+            return v;
+        }
+        self.value(k, v)
+    }
 
-    ghost least: { (s : Self) → 1 ≤ modulus_of s };
-
-    ghost most: { (s : Self) → modulus_of s ≤ 2 ^ 48 };
-
-    ghost within: { (s : Self) (k v : ℕ) → k < 8 → v < modulus_of s → function_of s k v < modulus_of s };
-
-    ghost commutes: { (s : Self) (j k v : ℕ) → j < 8 → k < 8 → v < modulus_of s → function_of s j (function_of s k v) ≡ function_of s k (function_of s j v) };
+    /// n is from 1 to 2^48, and the functions stay below it and commute.
+    ghost laws: { (s : Self) → Commuting (modulus_of s) (function_of s) };
 }

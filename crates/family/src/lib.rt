@@ -16,7 +16,7 @@ pub use dickson_polynomials::Dickson;
 pub use figures::figures_hold;
 pub use modular_powers::Powers;
 pub use modulus::FamilyRefusal;
-pub use thinning::thin_number;
+pub use thinning::{has_right, thin_number};
 
 #[cfg(test)]
 mod tests;

@@ -1,14 +1,15 @@
 //! The refusals of this layer as plain values.
 ghost use Rattle.family.specs.Refusals.{family_refusal};
+ghost use Rattle.std.specs.Prelude.{◌≡◌};
 
 use crate::modulus::FamilyRefusal;
-use refusal::{Layer, Refusal, Refuse};
+use refusal::{Layer, Refusal};
 
-impl Refuse for FamilyRefusal {
-    ghost means = { family_refusal };
+impl From<FamilyRefusal> for Refusal {
+    ghost from_gives = { λ e r. r ≡ family_refusal e };
 
-    fn refusal(&self) -> Refusal {
-        match self {
+    fn from(e: FamilyRefusal) -> Refusal {
+        match e {
             FamilyRefusal::ModulusOutOfRange => Refusal {
                 number: 4,
                 layer: Layer::Family,

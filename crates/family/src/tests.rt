@@ -1,13 +1,13 @@
 //! Examples of both families, and a family of the test's own.
-ghost use Rattle.std.specs.Prelude.{◌≤◌};
-ghost use Rattle.std.proofs.Common.{rules};
+ghost use Rattle.std.specs.Prelude.{◌≤◌, refl};
+ghost use Rattle.std.proofs.Common.{arith};
 
 use crate::commuting::CommutingFamily;
 use crate::dickson_polynomials::Dickson;
 use crate::modular_powers::Powers;
 use crate::modulus::FamilyRefusal;
 use crate::thinning::thin_number;
-use refusal::{Layer, Refuse};
+use refusal::{Layer, Refusal};
 use std::test::Fail;
 
 /// The identity: lawful, though no secret is fit in it.
@@ -21,29 +21,19 @@ struct Unmoving {
 impl CommutingFamily for Unmoving {
     const LETTER: char = 'I';
 
-    ghost letter = { 73 };
+    ghost LETTER = { 73 };
 
     ghost modulus_of = { λ s. s.modulus };
 
     ghost function_of = { λ s k v. v };
 
-    ghost least = { Prim.search rules };
-
-    ghost most = { Prim.search rules };
-
-    ghost within = { Prim.search rules };
-
-    ghost commutes = { Prim.search rules };
-
-    fn its_letter() -> char {
-        Self::LETTER
-    }
+    ghost laws = { λ s. record { least = s.some; most = omega (arith, s.few); within = λ k v p h. h; commutes = λ j k v p q h. refl } };
 
     fn modulus(&self) -> u64 {
         self.modulus
     }
 
-    fn apply(&self, _k: u64, v: u64) -> u64 {
+    fn value(&self, _k: u64, v: u64) -> u64 {
         v
     }
 }
@@ -53,7 +43,7 @@ fn refused(n: u64) -> Option<(u8, Layer, u8)> {
     match Powers::new(n) {
         Ok(_) => None,
         Err(e) => {
-            let r = e.refusal();
+            let r = Refusal::from(e);
             Some((r.number, r.layer, r.place))
         }
     }

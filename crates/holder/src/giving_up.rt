@@ -7,7 +7,7 @@ ghost use Rattle.std.specs.Prelude.{◌≡◌, Ok, nat_lt};
 
 use crate::capability::{Capability, Check, Mask, Rights};
 use crate::refusals::HolderRefusal;
-use family::{CommutingFamily, thin_number};
+use family::{CommutingFamily, has_right, thin_number};
 
 /// Refused unless the number of a check is below the family's modulus.
 fn judged<F: CommutingFamily>(family: &F, number: u64) -> Result<(), HolderRefusal>
@@ -34,7 +34,7 @@ fn without_right<F: CommutingFamily>(
     }
     judged(family, number)?;
     let held = capability.rights.bits;
-    if (held >> k) % 2 != 1 {
+    if !has_right(held, k) {
         return Ok(capability);
     }
     Ok(Capability {

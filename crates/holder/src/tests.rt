@@ -2,7 +2,7 @@
 use crate::capability::{Capability, Check, Mask, Object, Port, Rights};
 use crate::refusals::HolderRefusal;
 use family::Powers;
-use refusal::{Layer, Refuse};
+use refusal::{Layer, Refusal};
 use std::test::Fail;
 
 /// A directory's capability with these rights, and a check whose last four bytes are these.
@@ -27,14 +27,15 @@ const OWNER: [u8; 16] = [
 #[test]
 fn sixteen_bytes(rt: HostRuntime) {
     let owner = directory(255, [0, 0, 0x41, 0xa7]);
-    assert_eq!(rt; owner.write(), OWNER);
-    assert_eq!(rt; Capability::read(&OWNER), Ok(owner));
+    assert_eq!(rt; <[u8; 16]>::from(owner), OWNER);
+    assert_eq!(rt; Capability::try_from(&OWNER[..]), Ok(owner));
+    assert_eq!(rt; Capability::from(OWNER), owner);
     assert_eq!(rt;
-        Capability::read(&OWNER[0..15]),
+        Capability::try_from(&OWNER[0..15]),
         Err(HolderRefusal::WrongLength)
     );
     assert_eq!(rt;
-        Capability::read(&[7u8; 17]),
+        Capability::try_from(&[7u8; 17][..]),
         Err(HolderRefusal::WrongLength)
     );
     assert_eq!(rt; owner.object.number(), 65);
@@ -122,7 +123,7 @@ fn refusals_as_plain_values(rt: HostRuntime) {
         (HolderRefusal::NoSuchRight, 8),
         (HolderRefusal::CheckTooLarge, 9),
     ] {
-        let r = e.refusal();
+        let r = Refusal::from(e);
         assert_eq!(rt; (r.number, r.layer, r.place), (number, Layer::Holder, 0));
     }
 }

@@ -32,20 +32,10 @@ impl Layer {
     }
 }
 
-/// A refusal as a plain value.
+/// A refusal as a plain value. The refusal enum of each layer converts into it, by `From`.
 #[derive(Clone, Copy, PartialEq, Eq, Debug)]
 pub struct Refusal {
     pub number: u8,
     pub layer: Layer,
     pub place: u8,
-}
-
-/// What the refusal enum of a layer offers: each of its cases as a plain value.
-pub trait Refuse {
-    /// The number, layer and place of each case.
-    ghost means: { Self → Refusal };
-
-    /// This case as a plain value.
-    fn refusal(&self) -> Refusal
-        ensures { result ≡ means self.now };
 }

@@ -11,7 +11,7 @@ returns g c =
     let own = c.args.family in
     let n : ℕ = g.F.CommutingFamily.modulus_of own in
     let f : ℕ → ℕ → ℕ = g.F.CommutingFamily.function_of own in
-    let family : Commuting n f = record { least = met.least own; most = met.most own; within = met.within own; commutes = met.commutes own } in
+    let family : Commuting n f = met.laws own in
     record {
       answer = c.open.ensures.answer;
       memory = c.open.ensures.memory;

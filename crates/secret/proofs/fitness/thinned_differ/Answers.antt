@@ -8,5 +8,5 @@ returns g c =
     let own = c.args.family.now in
     let n = g.F.CommutingFamily.modulus_of own in
     let f = g.F.CommutingFamily.function_of own in
-    let laws : Commuting n f = record { least = met.least own; most = met.most own; within = met.within own; commutes = met.commutes own } in
+    let laws : Commuting n f = met.laws own in
     judged n f laws c.args.s c.fill.new.numbers c.all_differ.result c.requires.below c.fill.ensures c.all_differ.ensures

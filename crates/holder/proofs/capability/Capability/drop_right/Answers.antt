@@ -12,7 +12,7 @@ returns g c =
     let own = c.args.family.now in
     let n = g.F.CommutingFamily.modulus_of own in
     let f = g.F.CommutingFamily.function_of own in
-    let laws : Commuting n f = record { least = met.least own; most = met.most own; within = met.within own; commutes = met.commutes own } in
+    let laws : Commuting n f = met.laws own in
     let byte : c.args.self.rights.bits < 256 = search rules in
     let again : bytes_of 6 (check_number c.args.self) ≡ c.args.self.check.bytes = ap (bytes_of 6) (sym c.number-number.ensures.value) ∙ c.number-number.ensures.back in
     let whole : Whole c.args.self = record { byte = byte; again = again } in

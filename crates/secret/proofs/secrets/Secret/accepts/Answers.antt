@@ -11,7 +11,7 @@ returns g c =
     let own = c.args.family.now in
     let n = g.F.CommutingFamily.modulus_of own in
     let f = g.F.CommutingFamily.function_of own in
-    let laws : Commuting n f = record { least = met.least own; most = met.most own; within = met.within own; commutes = met.commutes own } in
+    let laws : Commuting n f = met.laws own in
     let s = c.args.self.value in
     let rights = c.args.rights.bits in
     let v = number c.args.check.bytes in

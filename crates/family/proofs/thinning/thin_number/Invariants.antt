@@ -2,7 +2,7 @@ use Rattle.std.proofs.Common.{◌≡◌}
 use Rattle.family.specs.Commuting.{asked}
 use Rattle.family.specs.Rights.{has}
 use Rattle.family.specs.Thin.{thin_below}
-use Rattle.family.proofs.thinning.steps.Given as goal
+use Rattle.family.proofs.thinning.thin_number.Given as goal
 
 abbrev pub invariant-loop-k : goal.invariant-loop-k
 invariant-loop-k g l =
