@@ -15,8 +15,8 @@ pub thin_more : (f : ℕ → ℕ → ℕ) (M : ℕ → Bool) (k v : ℕ) → thi
 unfolding thin_below
 thin_more f M k v = refl
 
--- sets with the same rights thin alike
-below_like : (f : ℕ → ℕ → ℕ) (M M' : ℕ → Bool) (v i : ℕ) → ((k : ℕ) → k < i → M k ≡ M' k) → thin_below f M i v ≡ thin_below f M' i v
+-- sets with the same rights below i thin alike as far as i
+pub below_like : (f : ℕ → ℕ → ℕ) (M M' : ℕ → Bool) (v i : ℕ) → ((k : ℕ) → k < i → M k ≡ M' k) → thin_below f M i v ≡ thin_below f M' i v
 below_like f M M' v zero e = thin_none f M v ∙ sym (thin_none f M' v)
 below_like f M M' v (suc i) e =
     thin_more f M i v

@@ -5,7 +5,7 @@ use lib.Arith.{digits_div}
 use Rattle.std.proofs.lemmas.Bool.{cases_lt}
 use Rattle.family.specs.Rights.{has}
 use Rattle.family.specs.Thin.{once, thin_below}
-use Rattle.family.proofs.ThinFacts.{thin_none, thin_more}
+use Rattle.family.proofs.ThinFacts.{thin_none, thin_more, below_like}
 
 -- right k is not in a set of rights below k
 has_not_yet : (m k : ℕ) → m < 2 ^ k → has m k ≡ false
@@ -25,15 +25,6 @@ has_lower m k j p =
     let quotient : (2 ^ k + m) / 2 ^ j ≡ m / 2 ^ j + 2 ^ d * 2 = ap (λ x. x / 2 ^ j) (omega (arith, split)) ∙ add-mul-div_right m (2 ^ d * 2) (pow_pos j) in
     ap (λ x. eqb x 1) (ap (λ x. x % 2) quotient ∙ omega arith)
 
--- sets with the same rights below i thin alike as far as i
-below_alike : (f : ℕ → ℕ → ℕ) (M M' : ℕ → Bool) (v i : ℕ) → ((k : ℕ) → k < i → M k ≡ M' k) → thin_below f M i v ≡ thin_below f M' i v
-below_alike f M M' v zero e = thin_none f M v ∙ sym (thin_none f M' v)
-below_alike f M M' v (suc i) e =
-    thin_more f M i v
-    ∙ ap (λ b. cond b (f i (thin_below f M i v)) (thin_below f M i v)) (e i (omega arith))
-    ∙ ap (once f M' i) (below_alike f M M' v i (λ k h. e k (omega arith)))
-    ∙ sym (thin_more f M' i v)
-
 module _ (f : ℕ → ℕ → ℕ) (s : ℕ) where
   -- the empty set
   pub fill_first : (xs : List ℕ) → 0 < length xs → (i : ℕ) → i < 1 → get_or (set xs 0 s) i 0 ≡ thin_below f (has i) 0 s
@@ -50,7 +41,7 @@ module _ (f : ℕ → ℕ → ℕ) (s : ℕ) where
       let M : ℕ → Bool = has (2 ^ k + m) in
       thin_more f M k s
       ∙ ap (λ b. cond b (f k (thin_below f M k s)) (thin_below f M k s)) (has_top m k h)
-      ∙ ap (f k) (below_alike f M (has m) s k (λ j q. has_lower m k j q))
+      ∙ ap (f k) (below_like f M (has m) s k (λ j q. has_lower m k j q))
 
   -- one right more: the lower half stays, and the upper half is made from it
   module _ (k half : ℕ) (xs ys : List ℕ) (size : half ≡ 2 ^ k)

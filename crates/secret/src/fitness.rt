@@ -11,26 +11,12 @@ use family::CommutingFamily;
 /// How many sets of rights there are, and so how many numbers the scratch has.
 pub const SETS: usize = 256;
 
-/// Whether number j differs from every number before it.
-fn is_new(numbers: &[u64], j: usize) -> bool
-    requires { j < length numbers.now }
-    ensures { MatchBool result (NewAt numbers.now j) (NewAt numbers.now j → ⊥) }
-{
-    for i in 0..j {
-        if numbers[i] == numbers[j] {
-            return false;
-        }
-    }
-    true
-}
-
-/// Whether the numbers are pairwise different.
-fn all_differ(numbers: &[u64]) -> bool
-    requires { length numbers.now ≡ 256 }
+/// Whether each number differs from all before it.
+fn all_differ(numbers: &[u64; SETS]) -> bool
     ensures { MatchBool result (AllNew numbers.now 256) (AllNew numbers.now 256 → ⊥) }
 {
-    for j in 0..SETS {
-        if !is_new(numbers, j) {
+    for (j, number) in numbers.iter().enumerate() {
+        if numbers[..j].contains(number) {
             return false;
         }
     }
@@ -38,9 +24,8 @@ fn all_differ(numbers: &[u64]) -> bool
 }
 
 /// Whether the thinned numbers of s, a number below the modulus, are pairwise different.
-fn thinned_differ<F: CommutingFamily>(family: &F, s: u64, numbers: &mut [u64]) -> bool
-    requires size { length numbers.old ≡ 256 }
-    requires below { s < F.modulus_of family.now }
+fn thinned_differ<F: CommutingFamily>(family: &F, s: u64, numbers: &mut [u64; SETS]) -> bool
+    requires { s < F.modulus_of family.now }
     ensures { result ≡ all_apart (thinned_by (F.function_of family.now) s) 256 }
 {
     fill(family, s, numbers);
@@ -48,8 +33,7 @@ fn thinned_differ<F: CommutingFamily>(family: &F, s: u64, numbers: &mut [u64]) -
 }
 
 /// Whether s is fit, with 256 numbers to work in.
-fn verdict<F: CommutingFamily>(family: &F, s: u64, numbers: &mut [u64]) -> bool
-    requires { length numbers.old ≡ 256 }
+fn verdict<F: CommutingFamily>(family: &F, s: u64, numbers: &mut [u64; SETS]) -> bool
     ensures { result ≡ is_fit (F.modulus_of family.now) (F.function_of family.now) s }
 {
     s < family.modulus() && thinned_differ(family, s, numbers)
@@ -64,7 +48,7 @@ fn judged<F: CommutingFamily>(family: &F, s: u64, scratch: &mut [u64]) -> Option
         return None;
     }
     let guard = Scratch { numbers: scratch };
-    Some(verdict(family, s, guard.numbers))
+    Some(verdict(family, s, guard.numbers.as_mut_array()?))
 }
 
 /// Whether the secret is fit; none, and the scratch untouched, unless it has 256 numbers, which are all zero afterwards.

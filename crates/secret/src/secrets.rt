@@ -6,7 +6,7 @@ use family::CommutingFamily;
 use holder::{Capability, Check, Object, Port, Rights};
 
 /// The number that all checks of one object come from. It can be neither printed nor read back.
-#[derive(Clone, Copy)]
+#[derive(Clone, Copy, PartialEq, Eq)]
 pub struct Secret {
     pub(crate) value: u64,
 }
@@ -23,7 +23,7 @@ impl Secret {
     pub fn same(self, other: Secret) -> bool
         ensures { result ≡ (self.value == other.value) }
     {
-        self.value == other.value
+        self == other
     }
 
     /// Whether the secret is below the family's modulus, as any that the family can thin is.

@@ -8,5 +8,4 @@ use Rattle.secret.proofs.filling.fill.Given as goal
 abbrev pub invariant-loop-k : goal.invariant-loop-k
 invariant-loop-k g l =
     let m = g.F.CommutingFamily in
-    (l.half ≡ 2 ^ l.k)
-    × ((i : ℕ) → i < 2 ^ l.k → get_or l.numbers i 0 ≡ thin_below (asked (m.modulus_of l.family) (m.function_of l.family)) (has i) l.k l.s)
+    (i : ℕ) → i < 2 ^ l.k → get_or l.numbers i 0 ≡ thin_below (asked (m.modulus_of l.family) (m.function_of l.family)) (has i) l.k l.s

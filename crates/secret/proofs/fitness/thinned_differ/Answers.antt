@@ -9,4 +9,4 @@ returns g c =
     let n = g.F.CommutingFamily.modulus_of own in
     let f = g.F.CommutingFamily.function_of own in
     let laws : Commuting n f = met.laws own in
-    judged n f laws c.args.s c.fill.new.numbers c.all_differ.result c.requires.below c.fill.ensures c.all_differ.ensures
+    judged n f laws c.args.s c.fill.new.numbers c.all_differ.result c.requires c.fill.ensures c.all_differ.ensures
