@@ -1,7 +1,7 @@
 //! restrict: gives up rights of a capability, on a laptop, with no connection.
 #![tactic(auto)]
 
-use restriction::{Failure, restrict_words};
+use restriction::{Failure, Words, restrict_words};
 use std::env;
 use std::process::ExitCode;
 use text::RefusalLine;
@@ -22,20 +22,8 @@ A refusal prints its line, 'no NUMBER LAYER PLACE', and ends with status 1:
 ";
 
 /// Takes the four words through, and prints what came of them.
-fn run(
-    rt: &HostRuntime,
-    letter: &str,
-    modulus: &str,
-    capability: &str,
-    mask: &str,
-) -> anyhow::Result<ExitCode> {
-    let answer = restrict_words(
-        letter.as_bytes(),
-        modulus.as_bytes(),
-        capability.as_bytes(),
-        mask.as_bytes(),
-    );
-    match answer {
+fn run(rt: &HostRuntime, words: Words) -> anyhow::Result<ExitCode> {
+    match restrict_words(words) {
         Ok(report) => {
             rt.print(report)?;
             Ok(ExitCode::SUCCESS)
@@ -61,10 +49,12 @@ fn main(rt: HostRuntime) -> anyhow::Result<ExitCode> {
         [_, letter, modulus, capability, mask] => {
             run(
                 &rt,
-                letter.as_str(),
-                modulus.as_str(),
-                capability.as_str(),
-                mask.as_str(),
+                Words {
+                    letter: letter.as_bytes(),
+                    modulus: modulus.as_bytes(),
+                    capability: capability.as_bytes(),
+                    mask: mask.as_bytes(),
+                },
             )
         }
         _ => {

@@ -15,8 +15,8 @@ use Rattle.restriction.specs.declared.request.Request.{Request}
 -- the letter of a family, alone in its word
 abbrev pub read_letter : List ℕ → Option FamilyLetter
 read_letter word =
-    cond (length word == 1 && slice_index word 0 == in_powers.letter) (Some P)
-    (cond (length word == 1 && slice_index word 0 == in_dickson.letter) (Some D) None)
+    cond (length word == 1 && slice_index word 0 == in_powers.LETTER) (Some P)
+    (cond (length word == 1 && slice_index word 0 == in_dickson.LETTER) (Some D) None)
 
 -- the request, or the first word from the left that cannot be read
 abbrev pub as_request : List ℕ → List ℕ → List ℕ → List ℕ → Result Request Misuse

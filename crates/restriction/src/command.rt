@@ -7,19 +7,16 @@ ghost use Rattle.std.specs.Prelude.{◌≡◌};
 
 use crate::report::Report;
 use crate::request::{Failure, FamilyLetter, Request};
-use crate::words::read_request;
+use crate::words::Words;
 use family::{CommutingFamily, Dickson, Powers};
 use holder::Capability;
-use refusal::{Refusal, Refuse};
+use refusal::Refusal;
 
 /// The request's capability, thinned in this family.
 fn thin_in<F: CommutingFamily>(family: &F, request: Request) -> Result<Capability, Refusal>
     ensures { result ≡ refused_as holder_refusal (thinned (F.modulus_of family.now) (F.function_of family.now) request.capability request.mask.bits) }
 {
-    match request.capability.thin_to(family, request.mask) {
-        Ok(rest) => Ok(rest),
-        Err(e) => Err(e.refusal()),
-    }
+    Ok(request.capability.thin_to(family, request.mask)?)
 }
 
 /// What is left of the request's capability, or the refusal.
@@ -27,35 +24,19 @@ pub fn carry_out(request: Request) -> Result<Capability, Refusal>
     ensures { result ≡ outcome request }
 {
     match request.letter {
-        FamilyLetter::P => match Powers::new(request.modulus) {
-            Ok(family) => thin_in(&family, request),
-            Err(e) => Err(e.refusal()),
-        },
-        FamilyLetter::D => match Dickson::new(request.modulus) {
-            Ok(family) => thin_in(&family, request),
-            Err(e) => Err(e.refusal()),
-        },
+        FamilyLetter::P => thin_in(&Powers::new(request.modulus)?, request),
+        FamilyLetter::D => thin_in(&Dickson::new(request.modulus)?, request),
     }
 }
 
 /// The whole command: four words read, the request carried out, and what there is to report.
-pub fn restrict_words(
-    letter: &[u8],
-    modulus: &[u8],
-    capability: &[u8],
-    mask: &[u8],
-) -> Result<Report, Failure>
-    ensures { result ≡ answer letter.now modulus.now capability.now mask.now }
+pub fn restrict_words(words: Words) -> Result<Report, Failure>
+    ensures { result ≡ answer words.entry.letter.now words.entry.modulus.now words.entry.capability.now words.entry.mask.now }
 {
-    let request = match read_request(letter, modulus, capability, mask) {
-        Ok(request) => request,
-        Err(e) => return Err(Failure::Misused(e)),
-    };
-    match carry_out(request) {
-        Ok(rest) => Ok(Report {
-            whole: request.capability,
-            rest,
-        }),
-        Err(e) => Err(Failure::Refused(e)),
-    }
+    let request = words.read()?;
+    let rest = carry_out(request)?;
+    Ok(Report {
+        whole: request.capability,
+        rest,
+    })
 }

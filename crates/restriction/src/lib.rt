@@ -9,7 +9,7 @@ mod words;
 pub use command::{carry_out, restrict_words};
 pub use report::{Listed, Report};
 pub use request::{Failure, FamilyLetter, Misuse, Request};
-pub use words::read_request;
+pub use words::Words;
 
 #[cfg(test)]
 mod tests;

@@ -3,6 +3,7 @@ ghost use Rattle.restriction.specs.Report.{listed, misuse_text, report_text};
 ghost use Rattle.std.specs.Prelude.{◌≡◌, Some};
 
 use crate::request::Misuse;
+use family::has_right;
 use holder::Capability;
 use std::fmt;
 use text::Hex;
@@ -21,9 +22,8 @@ impl fmt::Display for Listed {
             return f.write_str(" none");
         }
         for k in 0..8u8 {
-            if (self.set >> k) % 2 == 1 {
-                f.write_char(' ')?;
-                f.write_char((b'0' + k) as char)?;
+            if has_right(self.set, u64::from(k)) {
+                write!(f, " {k}")?;
             }
         }
         Ok(())
@@ -50,7 +50,7 @@ impl fmt::Display for Report {
         let dropped = Listed {
             set: held & (255 - self.rest.rights.bits),
         };
-        let rest = self.rest.write();
+        let rest = <[u8; 16]>::from(self.rest);
         let rest = Hex { bytes: &rest };
         write!(
             f,

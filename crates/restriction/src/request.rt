@@ -1,4 +1,7 @@
 //! What is asked of the command.
+ghost use Rattle.restriction.specs.declared.request.Failure.TheVariants.{Misused, Refused};
+ghost use Rattle.std.specs.Prelude.{◌≡◌};
+
 use holder::{Capability, Mask};
 use refusal::Refusal;
 
@@ -40,4 +43,20 @@ pub enum Failure {
     Misused(Misuse),
     /// The family or the holders' part refused.
     Refused(Refusal),
+}
+
+impl From<Misuse> for Failure {
+    ghost from_gives = { λ e r. r ≡ Misused e };
+
+    fn from(e: Misuse) -> Failure {
+        Failure::Misused(e)
+    }
+}
+
+impl From<Refusal> for Failure {
+    ghost from_gives = { λ e r. r ≡ Refused e };
+
+    fn from(e: Refusal) -> Failure {
+        Failure::Refused(e)
+    }
 }

@@ -2,6 +2,7 @@
 use crate::command::restrict_words;
 use crate::report::Listed;
 use crate::request::Failure;
+use crate::words::Words;
 use std::alloc::{AllocError, Global};
 use std::test::Fail;
 use text::RefusalLine;
@@ -14,12 +15,12 @@ fn printed(
     capability: &str,
     mask: &str,
 ) -> Result<String, AllocError> {
-    let answer = restrict_words(
-        letter.as_bytes(),
-        modulus.as_bytes(),
-        capability.as_bytes(),
-        mask.as_bytes(),
-    );
+    let answer = restrict_words(Words {
+        letter: letter.as_bytes(),
+        modulus: modulus.as_bytes(),
+        capability: capability.as_bytes(),
+        mask: mask.as_bytes(),
+    });
     match answer {
         Ok(report) => report.to_string(heap),
         Err(Failure::Refused(refusal)) => RefusalLine { refusal }.to_string(heap),

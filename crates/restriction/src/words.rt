@@ -20,34 +20,29 @@ fn read_letter(word: &[u8]) -> Option<FamilyLetter>
     }
 }
 
-/// The request that the four words make, or the first that cannot be read.
-pub fn read_request(
-    letter: &[u8],
-    modulus: &[u8],
-    capability: &[u8],
-    mask: &[u8],
-) -> Result<Request, Misuse>
-    ensures { result ≡ as_request letter.now modulus.now capability.now mask.now }
-{
-    let Some(letter) = read_letter(letter) else {
-        return Err(Misuse::BadLetter);
-    };
-    let Some(modulus) = read_decimal(modulus) else {
-        return Err(Misuse::BadModulus);
-    };
-    let Some(bytes) = read_hex::<16>(capability) else {
-        return Err(Misuse::BadCapability);
-    };
-    let Some(bits) = read_hex::<1>(mask) else {
-        return Err(Misuse::BadMask);
-    };
-    let Ok(capability) = Capability::read(&bytes) else {
-        return Err(Misuse::BadCapability);
-    };
-    Ok(Request {
-        letter,
-        modulus,
-        capability,
-        mask: Mask { bits: bits[0] },
-    })
+/// The four words of a command.
+#[derive(Clone, Copy)]
+pub struct Words<'a> {
+    pub letter: &'a [u8],
+    pub modulus: &'a [u8],
+    pub capability: &'a [u8],
+    pub mask: &'a [u8],
+}
+
+impl Words<'_> {
+    /// The request that the four words make, or the first that cannot be read.
+    pub fn read(self) -> Result<Request, Misuse>
+        ensures { result ≡ as_request self.entry.letter.now self.entry.modulus.now self.entry.capability.now self.entry.mask.now }
+    {
+        let letter = read_letter(self.letter).ok_or(Misuse::BadLetter)?;
+        let modulus = read_decimal(self.modulus).ok_or(Misuse::BadModulus)?;
+        let bytes = read_hex::<16>(self.capability).ok_or(Misuse::BadCapability)?;
+        let [bits] = read_hex::<1>(self.mask).ok_or(Misuse::BadMask)?;
+        Ok(Request {
+            letter,
+            modulus,
+            capability: Capability::from(bytes),
+            mask: Mask { bits },
+        })
+    }
 }
