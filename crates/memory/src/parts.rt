@@ -1,0 +1,45 @@
+//! Parts of the area: so many bytes from a start on.
+ghost use Rattle.std.specs.Prelude.{◌≡◌, ◌+◌, nat_le};
+ghost use Rattle.memory.specs.Parts.{clear_of};
+
+use crate::records::FileRecord;
+
+/// A part of the area.
+#[derive(Clone, Copy)]
+pub(crate) struct Part {
+    pub start: u64,
+    pub length: u64,
+}
+
+impl Part {
+    /// The part that a file record names, whether it is live or not.
+    pub fn of(file: &FileRecord) -> Part
+        ensures start { result.start ≡ file.now.start }
+        ensures length { result.length ≡ file.now.length }
+    {
+        Part {
+            start: file.start,
+            length: file.length,
+        }
+    }
+
+    /// Whether the part ends here or before.
+    pub fn ends_by(self, limit: u64) -> bool
+        ensures { result ≡ nat_le (self.start + self.length) limit }
+    {
+        self.start
+            .checked_add(self.length)
+            .is_some_and(|end| end <= limit)
+    }
+
+    /// Whether the part shares no byte with a file, or there is no file.
+    pub fn is_clear_of(self, file: &FileRecord) -> bool
+        ensures { result ≡ clear_of self.start self.length file.now }
+    {
+        !file.live
+            || self.ends_by(file.start)
+            || Part::of(file).ends_by(self.start)
+            || self.length == 0
+            || file.length == 0
+    }
+}
