@@ -1,14 +1,14 @@
 -- Tests of whole lists, by what the library's searches answer.
-use Rattle.std.proofs.Common.{◌≡◌, Bool, true, false, not, cond, ◌&&◌, List, [], ◌∷◌, Some, None, Option, MatchOption, Bor, refl, sym, ap, ◌∙◌, inl, inr}
+use Rattle.std.proofs.Common.{◌≡◌, Bool, true, false, not, cond, ◌&&◌, List, [], ◌∷◌, Some, None, Option, MatchOption, option_map, Iter, Bor, refl, sym, ap, ◌∙◌, inl, inr}
+use Rattle.std.specs.Bool.{⊤}
 use Rattle.std.specs.List.{list_all, find, FoldsTo}
-use Rattle.std.specs.Fn.{Mut, Called}
+use Rattle.std.specs.Fn.{Mut, Called, CalledAt}
 use Rattle.std.specs.Iterator.{YieldsThen}
 use Rattle.std.specs.Slice.Iter.{iter_rest}
-use Rattle.std.proofs.Common.{Iter}
 use Rattle.std.proofs.iter.Yields.{fronts}
 use Rattle.std.proofs.lemmas.Bool.{and_from, and_left, and_right, cases_Bool}
 use Rattle.std.proofs.lemmas.Iterator.{YieldsList-from_slice}
-use Rattle.std.proofs.lemmas.Iterator.Search.{all_from_yields_List}
+use Rattle.std.proofs.lemmas.Iterator.Search.{all_from_yields_List, find_from_yields_List}
 use Rattle.std.proofs.lemmas.List.Recursion.{same_from_clauses}
 use Rattle.memory.specs.Every.{every, pairwise}
 
@@ -32,23 +32,36 @@ module _ {A : Type 0} (q : A → A → Bool) (xs later : List A) (x : A) (e : xs
   pub first_differs : every (q x) later ≡ false → pairwise q xs ≡ false
   first_differs t = ap (pairwise q) e ∙ and_left (every (q x) later) (pairwise q later) t
 
--- a search for an element that fails: there is none, or any test that it fails, the whole list fails
 module _ {A : Type 0} (p : A → Bool) where
-  pub none_fails : (xs : List A) → find (λ x. not (p x)) xs ≡ None → every p xs ≡ true
+  -- there is no element that fails, so the whole list passes
+  none_fails : (xs : List A) → find (λ x. not (p x)) xs ≡ None → every p xs ≡ true
   none_fails [] e = refl
   none_fails (x ∷ xs) e = elim (cases_Bool (p x)) [
     | inl t ↦ and_from (p x) (every p xs) t (none_fails xs (sym (ap (λ b. cond (not b) (Some x) (find (λ y. not (p y)) xs)) t) ∙ e))
-    | inr f ↦ let e' : Some x ≡ None = sym (ap (λ b. cond (not b) (Some x) (find (λ y. not (p y)) xs)) f) ∙ e in absurd (cc)
+    | inr f ↦ let none : Some x ≡ None = sym (ap (λ b. cond (not b) (Some x) (find (λ y. not (p y)) xs)) f) ∙ e in absurd (cc)
   ]
 
-  pub one_fails : (xs : List A) (y : A) → find (λ x. not (p x)) xs ≡ Some y → (p y ≡ false) × ((t : A → Bool) → t y ≡ false → every t xs ≡ false)
+  -- an element that fails, and the whole list fails any test that it fails
+  one_fails : (xs : List A) (y : A) → find (λ x. not (p x)) xs ≡ Some y → (p y ≡ false) × ((t : A → Bool) → t y ≡ false → every t xs ≡ false)
   one_fails [] y e = absurd (cc)
   one_fails (x ∷ xs) y e = elim (cases_Bool (p x)) [
     | inl t ↦
         let rest = one_fails xs y (sym (ap (λ b. cond (not b) (Some x) (find (λ y. not (p y)) xs)) t) ∙ e) in
         (rest.0, λ u h. and_right (u x) (every u xs) (rest.1 u h))
     | inr f ↦
-        let e' : Some x ≡ Some y = sym (ap (λ b. cond (not b) (Some x) (find (λ y. not (p y)) xs)) f) ∙ e in
+        let one : Some x ≡ Some y = sym (ap (λ b. cond (not b) (Some x) (find (λ y. not (p y)) xs)) f) ∙ e in
         let same : x ≡ y = cc in
         (ap p (sym same) ∙ f, λ u h. and_left (u x) (every u xs) (ap u same ∙ h))
   ]
+
+  failing : (xs : List A) (r : Option (Bor A)) → option_map (λ y. y.now) r ≡ find (λ x. not (p x)) xs
+      → MatchOption r (every p xs ≡ true) (λ y. (p y.now ≡ false) × ((t : A → Bool) → t y.now ≡ false → every t xs ≡ false))
+  failing xs None e = none_fails xs (sym e)
+  failing xs (Some y) e = one_fails xs y.now (sym e)
+
+-- `find` over a slice, for an element that fails a test: there is none, or one that any test fails with
+pub failing_from_find : {A F : Type 0} {g : Mut F (Bor (Bor A) × Unit {0}) Bool} {s : Iter A} (p : A → Bool) (u : Iter A) (f : F) (r : Option (Bor A)) (all : List A)
+    → (xs : List (Bor A)) × (j : F) × YieldsThen fronts s xs r u × FoldsTo (λ q x q'. CalledAt g q x false q') f xs j × MatchOption r ⊤ (λ x. (h : F) × CalledAt g j x true h)
+    → iter_rest s ≡ all → ((x : Bor A) (b : Bool) (q : F) → CalledAt g f x b q → (q ≡ f) × (b ≡ not (p x.now)))
+    → MatchOption r (every p all ≡ true) (λ y. (p y.now ≡ false) × ((t : A → Bool) → t y.now ≡ false → every t all ≡ false))
+failing_from_find p u f r all ran rest computes = failing p all r (find_from_yields_List (λ x. not (p x)) u f r ran (YieldsList-from_slice all rest) computes)

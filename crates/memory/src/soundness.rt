@@ -11,17 +11,21 @@ use crate::records::FileRecord;
 use crate::rows::RowTest;
 use family::CommutingFamily;
 use holder::Port;
+use secret::Secret;
 
 /// Whether live secrets are below the modulus.
 fn secrets_below<F: CommutingFamily>(family: &F, memory: &Memory) -> bool
     ensures { result ≡ secrets_below (F.modulus_of family.now) (content memory.now) }
 {
+    let is_below = |live: bool, secret: Secret| !live || secret.below(family);
     memory
         .files
         .iter()
-        .all(|file| !file.live || file.secret.below(family))
-        && memory.directories.iter().all(|directory| !directory.live
-            || directory.secret.below(family))
+        .all(|file| is_below(file.live, file.secret))
+        && memory
+            .directories
+            .iter()
+            .all(|directory| is_below(directory.live, directory.secret))
 }
 
 /// Whether two live files share no byte.
@@ -40,7 +44,7 @@ fn files_sound(memory: &Memory) -> bool
         .files
         .iter()
         .all(|file| !file.live || Part::of(file).ends_by(area))
-        && holds_of_each_two(memory.files, |file, later| are_apart(file, later))
+        && holds_of_each_two(memory.files, are_apart)
 }
 
 /// Whether row counts are small enough and counted rows are sound.

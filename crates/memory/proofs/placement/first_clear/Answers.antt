@@ -1,10 +1,8 @@
 use Rattle.std.proofs.Common.{◌≡◌, ℕ, ◌+◌, ◌<◌, ◌≤◌, true, false, not, eqb, leb, List, None, Some, MatchOption, option_map, sym, ap, ◌∙◌, inl, inr, arith, rules, tests}
 use Rattle.std.proofs.lemmas.Bool.{cond-false, ne_eqb, le-leb, lt-leb, and_left, and_right, and_from, cases_lt}
 use Rattle.std.proofs.lemmas.Grind.{common_steps}
-use Rattle.std.proofs.lemmas.Iterator.{YieldsList-from_slice}
-use Rattle.std.proofs.lemmas.Iterator.Search.{find_from_yields_List}
 use Rattle.memory.specs.Every.{every}
-use Rattle.memory.proofs.Lists.{none_fails, one_fails}
+use Rattle.memory.proofs.Lists.{failing_from_find}
 use Rattle.table.specs.Lowest.{lowest}
 use Rattle.memory.specs.Parts.{clear_of}
 use Rattle.memory.specs.Placement.{allowed, placed}
@@ -46,9 +44,9 @@ returns-in-None c =
     let length = c.args.length in
     let start = c.loop-start.start in
     let last = c.in_ok-last.ensures in
-    let found = find_from_yields_List (λ r. not (clear_of start length r)) _ _ c.find.result c.find.ensures.ran (YieldsList-from_slice files cc) (λ x b q k. search (rules, tests)) in
+    let found = failing_from_find (clear_of start length) _ _ c.find.result files c.find.ensures.ran (cc) (λ x b q k. search (rules, tests)) in
     let fits : leb (start + length) area ≡ true = le-leb (start + length) area (omega (arith, last)) in
-    let clear : every (clear_of start length) files ≡ true = none_fails (clear_of start length) files (sym found ∙ ap (option_map (λ r. r.now)) c.in-None.is) in
+    let clear : every (clear_of start length) files ≡ true = rw c.in-None.is at found in
     sym (some_bytes files area length c.if-length-eq0.false
     ∙ lowest_some (allowed files area length) (area + 1) start (omega arith)
     (and_from (leb (start + length) area) (every (clear_of start length) files) fits clear) c.loop-start.invariant)
@@ -58,8 +56,8 @@ loop-start-smaller c =
     let files = c.args.files.now in
     let start = c.loop-start.start in
     let length = c.args.length in
-    let found = find_from_yields_List (λ r. not (clear_of start length r)) _ _ c.find.result c.find.ensures.ran (YieldsList-from_slice files cc) (λ x b q k. search (rules, tests)) in
-    let blocks = one_fails (clear_of start length) files c.in-Some.file.now (sym found ∙ ap (option_map (λ r. r.now)) c.in-Some.is) in
+    let found = failing_from_find (clear_of start length) _ _ c.find.result files c.find.ensures.ran (cc) (λ x b q k. search (rules, tests)) in
+    let blocks = rw c.in-Some.is at found in
     omega (arith, ends_behind start length c.in-Some.file.now blocks.0, c.in_ok-last.ensures)
 
 pub loop-start-preserved : goal.loop-start-preserved
@@ -67,8 +65,8 @@ loop-start-preserved c s h =
     let files = c.args.files.now in
     let start = c.loop-start.start in
     let length = c.args.length in
-    let found = find_from_yields_List (λ r. not (clear_of start length r)) _ _ c.find.result c.find.ensures.ran (YieldsList-from_slice files cc) (λ x b q k. search (rules, tests)) in
-    let blocks = one_fails (clear_of start length) files c.in-Some.file.now (sym found ∙ ap (option_map (λ r. r.now)) c.in-Some.is) in
+    let found = failing_from_find (clear_of start length) _ _ c.find.result files c.find.ensures.ran (cc) (λ x b q k. search (rules, tests)) in
+    let blocks = rw c.in-Some.is at found in
     elim (cases_lt s start) [
       | inl before ↦ c.loop-start.invariant s before
       | inr from ↦ and_right (leb (s + length) c.args.area) (every (clear_of s length) files) (blocks.1 (clear_of s length) (still_blocked start s length c.in-Some.file.now blocks.0 from (omega arith)))
