@@ -12,17 +12,6 @@ pub(crate) struct Part {
 }
 
 impl Part {
-    /// The part that a file record names, whether it is live or not.
-    pub fn of(file: &FileRecord) -> Part
-        ensures start { result.start ≡ file.now.start }
-        ensures length { result.length ≡ file.now.length }
-    {
-        Part {
-            start: file.start,
-            length: file.length,
-        }
-    }
-
     /// Whether the part ends here or before.
     pub fn ends_by(self, limit: u64) -> bool
         ensures { result ≡ nat_le (self.start + self.length) limit }
@@ -38,8 +27,21 @@ impl Part {
     {
         !file.live
             || self.ends_by(file.start)
-            || Part::of(file).ends_by(self.start)
+            || file.part().ends_by(self.start)
             || self.length == 0
             || file.length == 0
+    }
+}
+
+impl FileRecord {
+    /// The part that the record names, whether it is live or not.
+    pub(crate) fn part(&self) -> Part
+        ensures start { result.start ≡ self.now.start }
+        ensures length { result.length ≡ self.now.length }
+    {
+        Part {
+            start: self.start,
+            length: self.length,
+        }
     }
 }

@@ -5,7 +5,6 @@ ghost use Rattle.memory.specs.Soundness.{files_apart, files_sound, rows_all_soun
 ghost use Rattle.memory.specs.Words.{Sound};
 
 use crate::lent::Memory;
-use crate::parts::Part;
 use crate::quantified::holds_of_each_two;
 use crate::records::FileRecord;
 use crate::rows::RowTest;
@@ -32,7 +31,7 @@ fn secrets_below<F: CommutingFamily>(family: &F, memory: &Memory) -> bool
 fn are_apart(file: &FileRecord, other: &FileRecord) -> bool
     ensures { result ≡ files_apart file.now other.now }
 {
-    !file.live || Part::of(file).is_clear_of(other)
+    !file.live || file.part().is_clear_of(other)
 }
 
 /// Whether live files lie in the area and share no byte.
@@ -43,7 +42,7 @@ fn files_sound(memory: &Memory) -> bool
     memory
         .files
         .iter()
-        .all(|file| !file.live || Part::of(file).ends_by(area))
+        .all(|file| !file.live || file.part().ends_by(area))
         && holds_of_each_two(memory.files, are_apart)
 }
 
