@@ -1,53 +1,67 @@
--- Tests of whole lists, element by element.
-use Rattle.std.proofs.Common.{◌≡◌, ℕ, zero, suc, ◌+◌, ◌-◌, ◌<◌, ◌≤◌, Bool, true, false, ◌&&◌, List, [], ◌∷◌, length, get_or, take, drop, sym, ap, ◌∙◌, add-one, arith, length-drop, take_all, drop-cons}
-use Rattle.std.proofs.lemmas.List.{drop_all}
-use Rattle.std.proofs.lemmas.Bool.{and_left, and_right}
+-- Tests of whole lists, by what the library's searches answer.
+use Rattle.std.proofs.Common.{◌≡◌, Bool, true, false, not, cond, ◌&&◌, List, [], ◌∷◌, Some, None, Option, MatchOption, option_map, Iter, Bor, refl, sym, ap, ◌∙◌, inl, inr}
+use Rattle.std.specs.Bool.{⊤}
+use Rattle.std.specs.List.{list_all, find, FoldsTo}
+use Rattle.std.specs.Fn.{Mut, Called, CalledAt}
+use Rattle.std.specs.Iterator.{YieldsThen}
+use Rattle.std.specs.Slice.Iter.{iter_rest}
+use Rattle.std.proofs.iter.Yields.{fronts}
+use Rattle.std.proofs.lemmas.Bool.{and_from, and_left, and_right, cases_Bool}
+use Rattle.std.proofs.lemmas.Iterator.{YieldsList-from_slice}
+use Rattle.std.proofs.lemmas.Iterator.Search.{all_from_yields_List, find_from_yields_List}
+use Rattle.std.proofs.lemmas.List.Recursion.{same_from_clauses}
 use Rattle.memory.specs.Every.{every, pairwise}
 
-module _ {A : Type 0} (p : A → Bool) (xs : List A) (i : ℕ) (d : A) where
-  -- the test from i on is the test at i and from there on
-  every_at : i < length xs → every p (drop i xs) ≡ (p (get_or xs i d) && every p (drop (i + 1) xs))
-  every_at h = ap (every p) (drop-cons xs i d h) ∙ ap (λ j. p (get_or xs i d) && every p (drop j xs)) (sym (add-one i))
+-- `all` over a slice answers the test of the whole list
+pub every_from_all : {A F : Type 0} {g : Mut F (Bor A × Unit {0}) Bool} {s : Iter A} (p : A → Bool) (u : Iter A) (f : F) (r : Bool) (all : List A)
+    → (xs : List (Bor A)) × (o : Option (Bor A)) × (j : F) × YieldsThen fronts s xs o u × FoldsTo (λ q x q'. Called g q (x, tt) true q') f xs j × MatchOption o (r ≡ true) (λ x. (r ≡ false) × ((h : F) × Called g j (x, tt) false h))
+    → iter_rest s ≡ all → ((x : Bor A) (b : Bool) (q : F) → Called g f (x, tt) b q → (q ≡ f) × (b ≡ p x.now)) → r ≡ every p all
+every_from_all p u f r all ran rest computes =
+    all_from_yields_List p u f r ran (YieldsList-from_slice all rest) computes
+    ∙ same_from_clauses (list_all p) (every p) (λ x b. p x && b) refl (λ _ _. refl) (λ _ _. refl) all
 
-  -- an element that passes leaves the verdict to the rest
-  pub every_more : i < length xs → p (get_or xs i d) ≡ true → every p (drop (i + 1) xs) ≡ every p (drop i xs)
-  every_more h e = sym (every_at h ∙ ap (λ b. b && every p (drop (i + 1) xs)) e)
+-- two tests, where the first passed
+pub passed_and : (a b r : Bool) → a ≡ true → r ≡ b → r ≡ (a && b)
+passed_and a b r e f = f ∙ ap (λ x. x && b) (sym e)
 
--- an element that fails, and the whole list fails
-pub every_fails : {A : Type 0} (p : A → Bool) (xs : List A) (i : ℕ) (d : A) → i < length xs → p (get_or xs i d) ≡ false → every p xs ≡ false
-every_fails p [] i d h e = absurd (omega arith)
-every_fails p (x ∷ xs) zero d h e = and_left (p x) (every p xs) e
-every_fails p (x ∷ xs) (suc i) d h e = and_right (p x) (every p xs) (every_fails p xs i d (omega arith) e)
+-- the first element with the later ones, and each two of those
+module _ {A : Type 0} (q : A → A → Bool) (xs later : List A) (x : A) (e : xs ≡ x ∷ later) where
+  pub first_agrees : every (q x) later ≡ true → pairwise q later ≡ pairwise q xs
+  first_agrees t = passed_and (every (q x) later) (pairwise q later) (pairwise q later) t refl ∙ ap (pairwise q) (sym e)
 
-pub every_none : {A : Type 0} (p : A → Bool) (xs : List A) (i : ℕ) → length xs ≤ i → every p (drop i xs) ≡ true
-every_none p xs i h = ap (every p) (drop_all i xs h)
+  pub first_differs : every (q x) later ≡ false → pairwise q xs ≡ false
+  first_differs t = ap (pairwise q) e ∙ and_left (every (q x) later) (pairwise q later) t
 
--- the same at an element that is known as the one at its place
-module _ {A : Type 0} (p : A → Bool) (xs : List A) (i : ℕ) (x : A) (h : i < length xs) (e : x ≡ get_or xs i x) where
-  pub passed : true ≡ p x → every p (drop (i + 1) xs) ≡ every p (drop i xs)
-  passed t = every_more p xs i x h (ap p (sym e) ∙ sym t)
+module _ {A : Type 0} (p : A → Bool) where
+  -- there is no element that fails, so the whole list passes
+  none_fails : (xs : List A) → find (λ x. not (p x)) xs ≡ None → every p xs ≡ true
+  none_fails [] e = refl
+  none_fails (x ∷ xs) e = elim (cases_Bool (p x)) [
+    | inl t ↦ and_from (p x) (every p xs) t (none_fails xs (sym (ap (λ b. cond (not b) (Some x) (find (λ y. not (p y)) xs)) t) ∙ e))
+    | inr f ↦ let none : Some x ≡ None = sym (ap (λ b. cond (not b) (Some x) (find (λ y. not (p y)) xs)) f) ∙ e in absurd (cc)
+  ]
 
-  pub failed : false ≡ p x → every p xs ≡ false
-  failed t = every_fails p xs i x h (ap p (sym e) ∙ sym t)
+  -- an element that fails, and the whole list fails any test that it fails
+  one_fails : (xs : List A) (y : A) → find (λ x. not (p x)) xs ≡ Some y → (p y ≡ false) × ((t : A → Bool) → t y ≡ false → every t xs ≡ false)
+  one_fails [] y e = absurd (cc)
+  one_fails (x ∷ xs) y e = elim (cases_Bool (p x)) [
+    | inl t ↦
+        let rest = one_fails xs y (sym (ap (λ b. cond (not b) (Some x) (find (λ y. not (p y)) xs)) t) ∙ e) in
+        (rest.0, λ u h. and_right (u x) (every u xs) (rest.1 u h))
+    | inr f ↦
+        let one : Some x ≡ Some y = sym (ap (λ b. cond (not b) (Some x) (find (λ y. not (p y)) xs)) f) ∙ e in
+        let same : x ≡ y = cc in
+        (ap p (sym same) ∙ f, λ u h. and_left (u x) (every u xs) (ap u same ∙ h))
+  ]
 
--- each two from i on: i with the later ones, and each two of those
-pairwise_at : {A : Type 0} (q : A → A → Bool) (xs : List A) (i : ℕ) (x : A) → i < length xs → x ≡ get_or xs i x
-    → pairwise q (drop i xs) ≡ (every (q x) (drop (i + 1) xs) && pairwise q (drop (i + 1) xs))
-pairwise_at q xs i x h e =
-    ap (pairwise q) (drop-cons xs i x h)
-    ∙ ap (λ y. every (q y) (drop (suc i) xs) && pairwise q (drop (suc i) xs)) (sym e)
-    ∙ ap (λ j. every (q x) (drop j xs) && pairwise q (drop j xs)) (sym (add-one i))
+  failing : (xs : List A) (r : Option (Bor A)) → option_map (λ y. y.now) r ≡ find (λ x. not (p x)) xs
+      → MatchOption r (every p xs ≡ true) (λ y. (p y.now ≡ false) × ((t : A → Bool) → t y.now ≡ false → every t xs ≡ false))
+  failing xs None e = none_fails xs (sym e)
+  failing xs (Some y) e = one_fails xs y.now (sym e)
 
-module _ {A : Type 0} (q : A → A → Bool) (xs : List A) (i : ℕ) (x : A) (h : i < length xs) (e : x ≡ get_or xs i x) where
-  pub passed_with : true ≡ every (q x) (drop (i + 1) xs) → pairwise q (drop (i + 1) xs) ≡ pairwise q (drop i xs)
-  passed_with t = sym (pairwise_at q xs i x h e ∙ ap (λ b. b && pairwise q (drop (i + 1) xs)) (sym t))
-
-  pub failed_with : false ≡ every (q x) (drop (i + 1) xs) → pairwise q (drop i xs) ≡ false
-  failed_with t = pairwise_at q xs i x h e ∙ and_left (every (q x) (drop (i + 1) xs)) (pairwise q (drop (i + 1) xs)) (sym t)
-
-pub pairwise_none : {A : Type 0} (q : A → A → Bool) (xs : List A) (i : ℕ) → length xs ≤ i → pairwise q (drop i xs) ≡ true
-pairwise_none q xs i h = ap (pairwise q) (drop_all i xs h)
-
--- a slice from j on
-pub rest : {A : Type 0} (xs : List A) (j : ℕ) → take (length xs - j) (drop j xs) ≡ drop j xs
-rest xs j = take_all (length xs - j) (drop j xs) (omega (arith, length-drop j xs))
+-- `find` over a slice, for an element that fails a test: there is none, or one that any test fails with
+pub failing_from_find : {A F : Type 0} {g : Mut F (Bor (Bor A) × Unit {0}) Bool} {s : Iter A} (p : A → Bool) (u : Iter A) (f : F) (r : Option (Bor A)) (all : List A)
+    → (xs : List (Bor A)) × (j : F) × YieldsThen fronts s xs r u × FoldsTo (λ q x q'. CalledAt g q x false q') f xs j × MatchOption r ⊤ (λ x. (h : F) × CalledAt g j x true h)
+    → iter_rest s ≡ all → ((x : Bor A) (b : Bool) (q : F) → CalledAt g f x b q → (q ≡ f) × (b ≡ not (p x.now)))
+    → MatchOption r (every p all ≡ true) (λ y. (p y.now ≡ false) × ((t : A → Bool) → t y.now ≡ false → every t all ≡ false))
+failing_from_find p u f r all ran rest computes = failing p all r (find_from_yields_List (λ x. not (p x)) u f r ran (YieldsList-from_slice all rest) computes)

@@ -1,5 +1,6 @@
 -- The test of a start decides its words, so the lowest start that passes is the lowest in words.
 use Rattle.std.proofs.Common.{◌≡◌, ℕ, ◌+◌, ◌<◌, max, Bool, true, false, not, ◌||◌, eqb, leb, List, Some, Decides, Option, sym, refl, ◌∙◌, inl, inr, arith}
+use Rattle.std.proofs.lemmas.Grind.{common_steps}
 use Rattle.std.proofs.lemmas.Bool.{cond-true, cond-false, eq-eqb, ne_eqb, eqb-true, eqb-false, cases_Bool, cases_eq, leb-true, leb-false, le-leb, or_cases, or_parts, false≢true}
 use Rattle.std.proofs.lemmas.Bool.Decides.{Decides-and, not_from_Decides}
 use Rattle.std.proofs.ByRecursion.{Decides-by_and}
@@ -12,26 +13,14 @@ use Rattle.table.proofs.LowestFacts.{some_lowest, none_lowest}
 
 -- two parts are apart exactly when they share no byte
 apart_none : (s l s' l' : ℕ) → apart s l s' l' ≡ true → (b : ℕ) → InPart s l b → InPart s' l' b → ⊥
-apart_none s l s' l' e b p q = elim (or_cases (leb (s + l) s') _ e) [
-  | inl x ↦ omega (arith, leb-true (s + l) s' x)
-  | inr x ↦ elim (or_cases (leb (s' + l') s) _ x) [
-    | inl y ↦ omega (arith, leb-true (s' + l') s y)
-    | inr y ↦ elim (or_cases (eqb l 0) (eqb l' 0) y) [ inl z ↦ omega (arith, eqb-true l 0 z) | inr z ↦ omega (arith, eqb-true l' 0 z) ]
-  ]
-]
+apart_none s l s' l' e b p q = grind (arith, common_steps)
 
 none_apart : (s l s' l' : ℕ) → ((b : ℕ) → InPart s l b → InPart s' l' b → ⊥) → apart s l s' l' ≡ true
 none_apart s l s' l' h = elim (cases_Bool (apart s l s' l')) [
   | inl e ↦ e
   | inr e ↦
-      let one = or_parts (leb (s + l) s') _ e in
-      let two = or_parts (leb (s' + l') s) _ one.1 in
-      let three = or_parts (eqb l 0) (eqb l' 0) two.1 in
-      let a : s' < s + l = leb-false (s + l) s' one.0 in
-      let b : s < s' + l' = leb-false (s' + l') s two.0 in
-      let c : l ≡ 0 → ⊥ = eqb-false l 0 three.0 in
-      let d : l' ≡ 0 → ⊥ = eqb-false l' 0 three.1 in
-      absurd (h (max s s') (omega arith, omega arith) (omega arith, omega arith))
+      let least : (max s s' < s + l) × (max s s' < s' + l') = grind (arith, common_steps) in
+      absurd (h (max s s') (omega arith, least.0) (omega arith, least.1))
 ]
 
 pub clear_decides : (s l : ℕ) (r : FileRecord) → Decides (clear_of s l r) (ClearOf s l r)

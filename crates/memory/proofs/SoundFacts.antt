@@ -12,7 +12,7 @@ use Rattle.memory.specs.Words.{EachTwo, LawfulName, RowSound, RowsSound, Directo
 use Rattle.memory.specs.declared.records.DirectoryRecord.{DirectoryRecord}
 use Rattle.memory.specs.declared.records.Row.{Row}
 use Rattle.memory.proofs.PlaceFacts.{clear_decides}
-use Rattle.memory.proofs.Same.{same_true, same_equal}
+use Rattle.memory.proofs.Same.{same_decides}
 
 -- whole lists
 decides_every : {A : Type 0} (p : A → Bool) (P : A → Type 0) → ((x : A) → Decides (p x) (P x)) → (xs : List A) → Decides (every p xs) (AllByRecursion P xs)
@@ -30,9 +30,6 @@ decides_live false t P d = (λ e f. absurd (false≢true f), λ h. refl)
 decides_leb : (a b : ℕ) → Decides (leb a b) (a ≤ b)
 decides_leb a b = (leb-true a b, le-leb a b)
 
-decides_same : (xs ys : List ℕ) → Decides (same_bytes xs ys) (xs ≡ ys)
-decides_same xs ys = (same_equal xs ys, same_true xs ys)
-
 -- names and rows
 decides_name : (bs : List ℕ) → Decides (lawful_name bs) (LawfulName bs)
 decides_name bs =
@@ -46,12 +43,12 @@ module _ (n : ℕ) (port : List ℕ) where
   decides_row row =
       Decides-and (lawful_name (name_of row)) _ (decides_name (name_of row))
       (Decides-and (leb row.length 24) _ (decides_leb row.length 24)
-      (Decides-and (same_bytes row.capability.port.bytes port) _ (decides_same row.capability.port.bytes port) (Decides-ltb (check_number row.capability) n)))
+      (Decides-and (same_bytes row.capability.port.bytes port) _ (same_decides row.capability.port.bytes port) (Decides-ltb (check_number row.capability) n)))
 
   decides_rows : (rows : List Row) → Decides (rows_sound n port rows) (RowsSound n port rows)
   decides_rows rows =
       Decides-and (every (row_sound n port) rows) _ (decides_every (row_sound n port) (RowSound n port) decides_row rows)
-      (decides_pairs (λ r r'. not (same_name r r')) (λ r r'. name_of r ≡ name_of r' → ⊥) (λ r r'. Decides-not (same_name r r') (decides_same (name_of r) (name_of r'))) rows)
+      (decides_pairs (λ r r'. not (same_name r r')) (λ r r'. name_of r ≡ name_of r' → ⊥) (λ r r'. Decides-not (same_name r r') (same_decides (name_of r) (name_of r'))) rows)
 
   decides_directories : (ds : List DirectoryRecord) (rows : List Row) → Decides (directories_sound n port ds rows) (DirectoriesSound n port ds rows)
   decides_directories [] rows = (λ _. tt, λ _. refl)

@@ -4,7 +4,7 @@ ghost use Rattle.std.specs.Prelude.{◌≡◌};
 ghost use Rattle.std.proofs.Common.{rules};
 
 use crate::records::{DirectoryRecord, FileRecord};
-use crate::wiping::zero_directory;
+use crate::wiping::{zero_directory, zero_file};
 use secret::Secret;
 use table::Record;
 
@@ -20,12 +20,7 @@ impl Record for FileRecord {
     }
 
     fn blank(&self) -> FileRecord {
-        FileRecord {
-            live: false,
-            secret: Secret::new(0),
-            start: 0,
-            length: 0,
-        }
+        zero_file()
     }
 }
 

@@ -4,6 +4,7 @@
 mod keeping;
 mod lent;
 mod names;
+mod parts;
 mod placement;
 mod quantified;
 mod records;

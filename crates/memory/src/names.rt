@@ -2,43 +2,25 @@
 ghost use Rattle.memory.specs.Names.{lawful_name, name_byte, named, same_bytes};
 ghost use Rattle.std.specs.Prelude.{◌≡◌, option_map};
 
-use crate::quantified::{Rule, holds_of_each};
-
 /// A byte from 33 to 126, and not the slash.
-#[derive(Clone, Copy)]
-struct NameByte;
-
-impl Rule<u8> for NameByte {
-    ghost passes = { λ _. name_byte };
-
-    fn holds(&self, item: u8) -> bool {
-        item >= 33 && item <= 126 && item != b'/'
-    }
+fn is_name_byte(byte: u8) -> bool
+    ensures { result ≡ name_byte byte }
+{
+    (33..=126).contains(&byte) && byte != b'/'
 }
 
 /// Whether the bytes are a lawful name.
 pub fn is_lawful_name(bytes: &[u8]) -> bool
     ensures { result ≡ lawful_name bytes.now }
 {
-    if bytes.is_empty() || bytes.len() > 24 {
-        return false;
-    }
-    holds_of_each(&NameByte, bytes)
+    (1..=24).contains(&bytes.len()) && bytes.iter().all(|byte| is_name_byte(*byte))
 }
 
 /// Whether two names, or any bytes, are the same.
 pub fn are_same_bytes(a: &[u8], b: &[u8]) -> bool
     ensures { result ≡ same_bytes a.now b.now }
 {
-    if a.len() != b.len() {
-        return false;
-    }
-    for i in 0..a.len() {
-        if a[i] != b[i] {
-            return false;
-        }
-    }
-    true
+    a == b
 }
 
 /// The bytes of a name that passed the test of names.
@@ -52,10 +34,7 @@ impl<'a> Name<'a> {
     pub fn new(bytes: &'a [u8]) -> Option<Name<'a>>
         ensures { option_map (λ n. n.bytes.now) result ≡ named bytes.now }
     {
-        if !is_lawful_name(bytes) {
-            return None;
-        }
-        Some(Name { bytes })
+        is_lawful_name(bytes).then_some(Name { bytes })
     }
 
     /// Whether two names are the same.

@@ -1,55 +1,19 @@
-//! Rules that hold of each element of a slice, or of each two: the loops, once for all rules.
-ghost use Rattle.memory.specs.Every.{every, pairwise};
+//! Rules that hold of each two elements of a slice: the loop, once for all rules.
+ghost use Rattle.memory.specs.Every.{pairwise};
+ghost use Rattle.std.specs.Fn.{FnReturnsAtPair};
 ghost use Rattle.std.specs.Prelude.{◌≡◌, Bool};
 
-/// A rule on one element.
-pub trait Rule<T: Copy> {
-    ghost passes: { Self → T → Bool };
-
-    fn holds(&self, item: T) -> bool
-        ensures { result ≡ passes self.now item };
-}
-
-/// Whether the rule holds of each element.
-pub fn holds_of_each<T: Copy, P: Rule<T>>(rule: &P, items: &[T]) -> bool
-    ensures { result ≡ every (P.passes rule.now) items.now }
+/// Whether each two elements agree, the earlier one first, by a test that computes some `p`.
+pub(crate) fn holds_of_each_two<T, F: Fn(&T, &T) -> bool>(items: &[T], agree: F) -> bool
+    requires { F.IsAlwaysCallable agree }
+    ensures { (p : T → T → Bool) → ((x y : T) (r : Bool) → FnReturnsAtPair F.Fn agree x y r → r ≡ p x y) → result ≡ pairwise p items.now }
 {
-    for item in items {
-        if !rule.holds(*item) {
+    let mut rest = items;
+    while let Some((item, later)) = rest.split_first() {
+        if !later.iter().all(|other| agree(item, other)) {
             return false;
         }
-    }
-    true
-}
-
-/// A rule on two elements, the earlier one first.
-pub trait PairRule<T: Copy> {
-    ghost agrees: { Self → T → T → Bool };
-
-    fn holds_of(&self, item: T, later: T) -> bool
-        ensures { result ≡ agrees self.now item later };
-}
-
-/// Whether the rule holds of one element with each of the later ones.
-fn holds_with_each<T: Copy, P: PairRule<T>>(rule: &P, item: T, others: &[T]) -> bool
-    ensures { result ≡ every (P.agrees rule.now item) others.now }
-{
-    for other in others {
-        if !rule.holds_of(item, *other) {
-            return false;
-        }
-    }
-    true
-}
-
-/// Whether the rule holds of each two elements.
-pub fn holds_of_each_two<T: Copy, P: PairRule<T>>(rule: &P, items: &[T]) -> bool
-    ensures { result ≡ pairwise (P.agrees rule.now) items.now }
-{
-    for i in 0..items.len() {
-        if !holds_with_each(rule, items[i], &items[i + 1..]) {
-            return false;
-        }
+        rest = later;
     }
     true
 }

@@ -1,4 +1,6 @@
 //! The records of files and directories.
+//!
+//! Memory is brought raw by the caller, so a record is a flag beside fields that are there, and judged, also where it is free.
 use holder::{Capability, Mask};
 use secret::Secret;
 
@@ -27,7 +29,7 @@ pub struct Masks {
     pub buyer: Mask,
 }
 
-/// A row of a directory, as it lies in memory: a name's length and bytes, a capability and its masks.
+/// A row of a directory, as it lies in memory: a name's length, which may be any number, and bytes, a capability and its masks.
 #[derive(Clone, Copy)]
 pub struct Row {
     pub length: u64,

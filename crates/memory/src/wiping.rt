@@ -3,21 +3,12 @@ ghost use Rattle.memory.specs.Held.{content};
 ghost use Rattle.memory.specs.Loans.{SameLoan};
 ghost use Rattle.memory.specs.Records.{zero_directory, zero_file};
 ghost use Rattle.memory.specs.Wiped.{wiped, zero_row};
-ghost use Rattle.std.specs.Prelude.{◌≡◌, length, replicate};
+ghost use Rattle.std.specs.Prelude.{◌≡◌};
 
 use crate::lent::Memory;
 use crate::records::{DirectoryRecord, FileRecord, Masks, Row};
 use holder::{Capability, Check, Mask, Object, Port, Rights};
 use secret::Secret;
-
-/// Puts one value everywhere.
-fn fill<T: Copy>(items: &mut [T], value: T)
-    ensures { items.new ≡ replicate (length items.old) value }
-{
-    for i in 0..items.len() {
-        items[i] = value;
-    }
-}
 
 /// A file record of zeros.
 pub(crate) fn zero_file() -> FileRecord
@@ -68,8 +59,8 @@ pub fn wipe(memory: &mut Memory)
     ensures value { content memory.new ≡ wiped (content memory.old) }
     ensures loan { SameLoan memory.old memory.new }
 {
-    fill(memory.files, zero_file());
-    fill(memory.directories, zero_directory());
-    fill(memory.rows, zero_row());
-    fill(memory.area, 0);
+    memory.files.fill(zero_file());
+    memory.directories.fill(zero_directory());
+    memory.rows.fill(zero_row());
+    memory.area.fill(0);
 }

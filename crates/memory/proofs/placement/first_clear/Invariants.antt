@@ -7,4 +7,4 @@ abbrev pub invariant-loop-start : goal.invariant-loop-start
 invariant-loop-start l = (s : ℕ) → s < l.start → allowed l.files l.area l.length s ≡ false
 
 abbrev pub decreases-loop-start : goal.decreases-loop-start
-decreases-loop-start l = l.area + 1 - l.start
+decreases-loop-start l = l.last + 1 - l.start

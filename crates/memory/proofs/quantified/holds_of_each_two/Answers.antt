@@ -1,19 +1,21 @@
-use Rattle.std.proofs.Common.{◌+◌, sym, ap, ◌∙◌}
+use Rattle.std.proofs.Common.{◌≡◌, rules, refl, sym, ◌∙◌}
+use Rattle.std.proofs.lemmas.Fn.{says_at_two}
 use Rattle.memory.specs.Every.{every}
-use Rattle.memory.proofs.Lists.{passed_with, failed_with, pairwise_none, rest}
+use Rattle.memory.proofs.Lists.{every_from_all, first_agrees, first_differs}
 use Rattle.memory.proofs.quantified.holds_of_each_two.Goals as goal
 
-pub loop-i-preserved : goal.loop-i-preserved
-loop-i-preserved g c =
-    passed_with (g.P.PairRule.agrees c.args.rule.now) c.args.items.now c.loop-i.i c.index-items-i.result c.loop-i-test.true c.index-items-i.is
-    (c.if-not-holds_with_each.ensures ∙ ap (every (g.P.PairRule.agrees c.args.rule.now c.index-items-i.result)) (rest c.args.items.now (c.loop-i.i + 1)))
-    ∙ c.loop-i.invariant
+pub returns-then-not-all : goal.returns-then-not-all
+returns-then-not-all g c p computes =
+    let item = c.in-Some.item in
+    let later = c.in-Some.later.now in
+    let whole : c.all.result ≡ every (p item.now) later
+    = every_from_all (p item.now) _ _ c.all.result later c.all.ensures.ran (cc) (λ x b q k. (search rules, computes _ _ b (says_at_two g.F.Fn {y = item} {z = x} (search rules) refl))) in
+    sym (sym (c.loop-item.invariant p computes) ∙ first_differs p _ _ _ c.in-Some.ensures.cases.0 (sym whole ∙ c.if-not-all.true))
 
-pub returns-then-not-holds_with_each : goal.returns-then-not-holds_with_each
-returns-then-not-holds_with_each g c =
-    sym (sym c.loop-i.invariant
-    ∙ failed_with (g.P.PairRule.agrees c.args.rule.now) c.args.items.now c.loop-i.i c.index-items-i.result c.loop-i-test.true c.index-items-i.is
-    (c.if-not-holds_with_each.ensures ∙ ap (every (g.P.PairRule.agrees c.args.rule.now c.index-items-i.result)) (rest c.args.items.now (c.loop-i.i + 1))))
-
-pub returns : goal.returns
-returns g c = sym (sym c.loop-i.invariant ∙ pairwise_none (g.P.PairRule.agrees c.args.rule.now) c.args.items.now c.loop-i.i c.loop-i-test.false)
+pub loop-item-preserved : goal.loop-item-preserved
+loop-item-preserved g c p computes =
+    let item = c.in-Some.item in
+    let later = c.in-Some.later.now in
+    let whole : c.all.result ≡ every (p item.now) later
+    = every_from_all (p item.now) _ _ c.all.result later c.all.ensures.ran (cc) (λ x b q k. (search rules, computes _ _ b (says_at_two g.F.Fn {y = item} {z = x} (search rules) refl))) in
+    first_agrees p _ _ _ c.in-Some.ensures.cases.0 (sym whole ∙ c.if-not-all.false) ∙ c.loop-item.invariant p computes

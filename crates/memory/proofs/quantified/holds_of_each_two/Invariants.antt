@@ -1,9 +1,12 @@
-use Rattle.std.proofs.Common.{◌≡◌, drop}
+use Rattle.std.proofs.Common.{◌≡◌, Bool, length}
+use Rattle.std.specs.Fn.{FnReturnsAtPair}
 use Rattle.memory.specs.Every.{pairwise}
 use Rattle.memory.proofs.quantified.holds_of_each_two.Given as goal
 
 -- those so far agree with all later ones, so the rest decides
-abbrev pub invariant-loop-i : goal.invariant-loop-i
-invariant-loop-i g l =
-    let test = g.P.PairRule.agrees l.rule in
-    pairwise test (drop l.i l.items) ≡ pairwise test l.items
+abbrev pub invariant-loop-item : goal.invariant-loop-item
+invariant-loop-item g l =
+    (p : _) → ((x y : _) (r : Bool) → FnReturnsAtPair g.F.Fn l.agree x y r → r ≡ p x y) → pairwise p l.rest ≡ pairwise p l.fn.items
+
+abbrev pub decreases-loop-item : goal.decreases-loop-item
+decreases-loop-item g l = length l.rest
