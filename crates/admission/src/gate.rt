@@ -6,9 +6,9 @@ ghost use Rattle.std.specs.Prelude.{◌≡◌};
 use crate::denials::Denial;
 use crate::objects::{Target, locate};
 use crate::requests::Asking;
-use family::CommutingFamily;
+use family::{CommutingFamily, has_right};
 use holder::{Capability, Port, Rights};
-use memory::{Memory, are_same_bytes};
+use memory::Memory;
 use secret::Secret;
 
 /// What a store is known by: its family, its port and its own secret.
@@ -26,7 +26,7 @@ fn permit(asking: Asking, target: Target, rights: Rights) -> Result<Target, Deni
     if !asking.fits(target) {
         return Err(Denial::WrongKind);
     }
-    if (rights.bits >> asking.right()) % 2 != 1 {
+    if !has_right(rights.bits, u64::from(asking.right())) {
         return Err(Denial::RightMissing);
     }
     Ok(target)
@@ -37,12 +37,10 @@ impl<F: CommutingFamily> Gate<F> {
     pub fn judge(&self, memory: &Memory, capability: Capability) -> Result<Target, Denial>
         ensures { result ≡ judged (F.modulus_of self.now.family) (F.function_of self.now.family) self.now.port.bytes self.now.secret (content memory.now) capability }
     {
-        if !are_same_bytes(&capability.port.bytes, &self.port.bytes) {
+        if capability.port != self.port {
             return Err(Denial::WrongPort);
         }
-        let Some(target) = locate(memory, capability.object) else {
-            return Err(Denial::NoSuchObject);
-        };
+        let target = locate(memory, capability.object).ok_or(Denial::NoSuchObject)?;
         if !target
             .secret(self.secret)
             .accepts(&self.family, capability.rights, capability.check)

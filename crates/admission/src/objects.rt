@@ -41,14 +41,8 @@ pub fn locate(memory: &Memory, object: Object) -> Option<Target>
     let files = memory.files.len() as u64;
     if number <= files {
         let place = (number - 1) as usize;
-        return match find(memory.files, place) {
-            Some(record) => Some(Target::File(place, record)),
-            None => None,
-        };
+        return find(memory.files, place).map(|record| Target::File(place, record));
     }
     let place = (number - 1 - files) as usize;
-    match find(memory.directories, place) {
-        Some(record) => Some(Target::Directory(place, record)),
-        None => None,
-    }
+    find(memory.directories, place).map(|record| Target::Directory(place, record))
 }
