@@ -1,6 +1,6 @@
 -- The answers of the single calls, told by the call for any request.
 use Rattle.std.proofs.Common.{◌≡◌, ℕ, List, Ok, Err, Result, refl, ap, ◌∙◌}
-use Rattle.std.specs.Result.{result_map_both}
+use Rattle.std.specs.Result.{result_map_both, MatchResult, IsOkAnd}
 use Rattle.memory.specs.Soundness.{Content}
 use Rattle.store.specs.Changes.{Outcome, outcome, told_as}
 use Rattle.store.specs.Held.{tell_in}
@@ -8,6 +8,13 @@ use Rattle.store.specs.Kept.{Kept}
 use Rattle.store.specs.Requests.{Told}
 use Rattle.store.specs.declared.refusals.StoreRefusal.{StoreRefusal}
 use Rattle.store.specs.declared.requests.Answer.{Answer}
+
+-- what `map` gives, where the function that it takes makes an answer
+pub mapped : {A B E : Type 0} (post : A → B → Type 0) (make : A → B) (r : Result A E) (out : Result B E) → ((x : A) (y : B) → post x y → y ≡ make x)
+    → MatchResult r (λ x. IsOkAnd out (post x)) (λ e. out ≡ Err e) → out ≡ result_map_both make (λ e. e) r
+mapped post make (Ok x) (Ok y) means h = ap Ok (means x y h)
+mapped post make (Ok x) (Err e) means h = absurd h
+mapped post make (Err e) out means h = h
 
 -- an answer made from a call's own tells what that tells
 pub told_alike : {A : Type 0} (area : List ℕ) (tell : A → Told) (make : A → Answer) (r : Result A StoreRefusal) (a : Result Answer StoreRefusal)

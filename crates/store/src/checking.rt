@@ -48,9 +48,6 @@ impl<F: CommutingFamily> Store<F> {
         if !is_sound(&self.gate.family, self.gate.port, memory) {
             return Err(StoreRefusal::UnsoundMemory);
         }
-        match self.gate.admit(memory, asking, capability) {
-            Ok(target) => Ok(target),
-            Err(denial) => Err(StoreRefusal::Denied(denial)),
-        }
+        Ok(self.gate.admit(memory, asking, capability)?)
     }
 }

@@ -9,6 +9,7 @@ ghost use Rattle.store.specs.Requests.{create_file, granted};
 ghost use Rattle.store.specs.Served.{attempted, served};
 ghost use Rattle.store.specs.Sizes.{sizes_agree};
 
+use crate::granting::check_fit;
 use crate::keeping::Store;
 use crate::refusals::StoreRefusal;
 use crate::tables::give;
@@ -16,7 +17,7 @@ use admission::Asking;
 use family::CommutingFamily;
 use holder::Capability;
 use memory::{Memory, place};
-use secret::{SETS, Scratch, Secret, is_fit};
+use secret::{SETS, Scratch, Secret};
 use table::claim;
 
 /// Where a new file goes: its place in the table, and its start in the area.
@@ -50,21 +51,15 @@ impl<F: CommutingFamily> Store<F> {
         memory: &Memory,
         len: u64,
         secret: Secret,
-        scratch: &mut [u64],
+        numbers: &mut [u64; SETS],
     ) -> Result<Spot, StoreRefusal>
-        requires { length scratch.old ≡ 256 }
         ensures value { result ≡ spot_for (kept F.modulus_of F.function_of self.now) (content memory.now) len secret }
         ensures words { IfOk result (RightSpot (kept F.modulus_of F.function_of self.now) (content memory.now) len secret) }
     {
-        if is_fit(&self.gate.family, secret, scratch) != Some(true) {
-            return Err(StoreRefusal::UnfitSecret);
-        }
-        let Some(free) = claim(memory.files, self.next_file) else {
-            return Err(StoreRefusal::NoFreeRecord);
-        };
-        let Some(start) = place(memory.files, memory.area.len() as u64, len) else {
-            return Err(StoreRefusal::NoStart);
-        };
+        check_fit(&self.gate.family, secret, numbers)?;
+        let free = claim(memory.files, self.next_file).ok_or(StoreRefusal::NoFreeRecord)?;
+        let area = memory.area.len() as u64;
+        let start = place(memory.files, area, len).ok_or(StoreRefusal::NoStart)?;
         Ok(Spot { place: free, start })
     }
 
@@ -89,10 +84,9 @@ impl<F: CommutingFamily> Store<F> {
         capability: Capability,
         bytes: &[u8],
         secret: Secret,
-        numbers: &mut [u64],
+        numbers: &mut [u64; SETS],
     ) -> Result<Capability, StoreRefusal>
-        requires sizes { sizes_agree (kept F.modulus_of F.function_of self.old) (content memory.old) ≡ true }
-        requires full { length numbers.old ≡ 256 }
+        requires { sizes_agree (kept F.modulus_of F.function_of self.old) (content memory.old) ≡ true }
         ensures outcome { outcome (told_as granted result) (kept F.modulus_of F.function_of self.new) (content memory.new) [] ≡ settled (kept F.modulus_of F.function_of self.old) (content memory.old) [] (attempted (kept F.modulus_of F.function_of self.old) (content memory.old) capability (create_file bytes.now secret [])) }
         ensures loan { SameLoan memory.old memory.new }
     {
@@ -119,6 +113,7 @@ impl<F: CommutingFamily> Store<F> {
             return Err(StoreRefusal::WrongSizes);
         }
         let guard = Scratch { numbers: scratch };
-        self.try_file(memory, capability, bytes, secret, guard.numbers)
+        let numbers = guard.numbers.as_mut_array().unwrap();
+        self.try_file(memory, capability, bytes, secret, numbers)
     }
 }

@@ -9,6 +9,7 @@ ghost use Rattle.store.specs.Requests.{create_directory, granted};
 ghost use Rattle.store.specs.Served.{attempted, served};
 ghost use Rattle.store.specs.Sizes.{sizes_agree};
 
+use crate::granting::check_fit;
 use crate::keeping::Store;
 use crate::refusals::StoreRefusal;
 use crate::tables::give;
@@ -16,7 +17,7 @@ use admission::Asking;
 use family::CommutingFamily;
 use holder::Capability;
 use memory::Memory;
-use secret::{SETS, Scratch, Secret, is_fit};
+use secret::{SETS, Scratch, Secret};
 use table::claim;
 
 impl<F: CommutingFamily> Store<F> {
@@ -25,19 +26,13 @@ impl<F: CommutingFamily> Store<F> {
         &self,
         memory: &Memory,
         secret: Secret,
-        scratch: &mut [u64],
+        numbers: &mut [u64; SETS],
     ) -> Result<usize, StoreRefusal>
-        requires { length scratch.old ≡ 256 }
         ensures value { result ≡ place_for (kept F.modulus_of F.function_of self.now) (content memory.now) secret }
         ensures words { IfOk result (RightPlace (kept F.modulus_of F.function_of self.now) (content memory.now) secret) }
     {
-        if is_fit(&self.gate.family, secret, scratch) != Some(true) {
-            return Err(StoreRefusal::UnfitSecret);
-        }
-        let Some(free) = claim(memory.directories, self.next_directory) else {
-            return Err(StoreRefusal::NoFreeRecord);
-        };
-        Ok(free)
+        check_fit(&self.gate.family, secret, numbers)?;
+        claim(memory.directories, self.next_directory).ok_or(StoreRefusal::NoFreeRecord)
     }
 
     /// Writes the record of a new directory.
@@ -57,10 +52,9 @@ impl<F: CommutingFamily> Store<F> {
         memory: &mut Memory,
         capability: Capability,
         secret: Secret,
-        numbers: &mut [u64],
+        numbers: &mut [u64; SETS],
     ) -> Result<Capability, StoreRefusal>
-        requires sizes { sizes_agree (kept F.modulus_of F.function_of self.old) (content memory.old) ≡ true }
-        requires full { length numbers.old ≡ 256 }
+        requires { sizes_agree (kept F.modulus_of F.function_of self.old) (content memory.old) ≡ true }
         ensures outcome { outcome (told_as granted result) (kept F.modulus_of F.function_of self.new) (content memory.new) [] ≡ settled (kept F.modulus_of F.function_of self.old) (content memory.old) [] (attempted (kept F.modulus_of F.function_of self.old) (content memory.old) capability (create_directory secret [])) }
         ensures loan { SameLoan memory.old memory.new }
     {
@@ -87,6 +81,7 @@ impl<F: CommutingFamily> Store<F> {
             return Err(StoreRefusal::WrongSizes);
         }
         let guard = Scratch { numbers: scratch };
-        self.try_directory(memory, capability, secret, guard.numbers)
+        let numbers = guard.numbers.as_mut_array().unwrap();
+        self.try_directory(memory, capability, secret, numbers)
     }
 }

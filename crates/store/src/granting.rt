@@ -1,13 +1,31 @@
-//! Owner capabilities for the store's objects.
-ghost use Rattle.std.specs.Prelude.{◌≡◌, ◌^◌, ◌<◌, true};
+//! Secrets that a store takes, and the owner capabilities made from them.
+ghost use Rattle.refusal.specs.Chains.{unless};
+ghost use Rattle.secret.specs.Fitness.{is_fit};
+ghost use Rattle.std.specs.Prelude.{◌≡◌, ◌^◌, ◌<◌, true, Ok};
 ghost use Rattle.store.specs.Creating.{fit_for};
 ghost use Rattle.store.specs.Held.{kept};
 ghost use Rattle.store.specs.Kept.{grant_of};
+ghost use Rattle.store.specs.declared.refusals.StoreRefusal.TheVariants.{UnfitSecret};
 
 use crate::keeping::Store;
+use crate::refusals::StoreRefusal;
 use family::CommutingFamily;
 use holder::{Capability, Object};
-use secret::Secret;
+use secret::{SETS, Secret, is_fit};
+
+/// Refused unless the secret is fit.
+pub(crate) fn check_fit<F: CommutingFamily>(
+    family: &F,
+    secret: Secret,
+    numbers: &mut [u64; SETS],
+) -> Result<(), StoreRefusal>
+    ensures { result ≡ unless (is_fit (F.modulus_of family.now) (F.function_of family.now) secret.value) UnfitSecret (Ok tt) }
+{
+    if is_fit(family, secret, numbers) != Some(true) {
+        return Err(StoreRefusal::UnfitSecret);
+    }
+    Ok(())
+}
 
 impl<F: CommutingFamily> Store<F> {
     /// The owner capability of the object with a number, from a fit secret.

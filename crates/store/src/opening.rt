@@ -6,15 +6,16 @@ ghost use Rattle.store.specs.Held.{kept, opened_as};
 ghost use Rattle.store.specs.Opened.{founding, memory_opened, new_store, opening, scratch_opened};
 ghost use Rattle.store.specs.Kept.{grant_of};
 ghost use Rattle.store.specs.Sizes.{lawful_sizes};
-ghost use Rattle.std.specs.Prelude.{◌≡◌, true, length};
+ghost use Rattle.std.specs.Prelude.{◌≡◌, true};
 
+use crate::granting::check_fit;
 use crate::keeping::Store;
 use crate::refusals::StoreRefusal;
 use admission::Gate;
 use family::CommutingFamily;
 use holder::{Capability, Port};
 use memory::{Memory, wipe};
-use secret::{SETS, Scratch, Secret, is_fit};
+use secret::{SETS, Scratch, Secret};
 
 /// A new store, and the owner capability of object 0.
 #[derive(Drop)]
@@ -37,18 +38,15 @@ fn sizes_lawful(memory: &Memory) -> bool
 
 impl<F: CommutingFamily + Drop> Store<F> {
     /// A store over memory of these sizes, with fit secret.
-    fn found(family: F, port: Port, secret: Secret, memory: &Memory) -> Opened<F>
+    fn found(gate: Gate<F>, memory: &Memory) -> Opened<F>
         requires sizes { lawful_sizes (content memory.now) ≡ true }
-        requires fit { is_fit (F.modulus_of family) (F.function_of family) secret.value ≡ true }
-        ensures store { kept F.modulus_of F.function_of result.store ≡ new_store (F.modulus_of family) (F.function_of family) port secret (content memory.now) }
-        ensures owner { result.owner ≡ grant_of (new_store (F.modulus_of family) (F.function_of family) port secret (content memory.now)) 0 secret }
+        requires fit { is_fit (F.modulus_of gate.family) (F.function_of gate.family) gate.secret.value ≡ true }
+        ensures store { kept F.modulus_of F.function_of result.store ≡ new_store (F.modulus_of gate.family) (F.function_of gate.family) gate.port gate.secret (content memory.now) }
+        ensures owner { result.owner ≡ grant_of (new_store (F.modulus_of gate.family) (F.function_of gate.family) gate.port gate.secret (content memory.now)) 0 gate.secret }
     {
+        let secret = gate.secret;
         let store = Store {
-            gate: Gate {
-                family,
-                port,
-                secret,
-            },
+            gate,
             files: memory.files.len(),
             directories: memory.directories.len(),
             area: memory.area.len(),
@@ -61,22 +59,17 @@ impl<F: CommutingFamily + Drop> Store<F> {
 
     /// Opens where sizes are right.
     fn try_open(
-        family: F,
-        port: Port,
-        secret: Secret,
+        gate: Gate<F>,
         memory: &mut Memory,
-        numbers: &mut [u64],
+        numbers: &mut [u64; SETS],
     ) -> Result<Opened<F>, StoreRefusal>
-        requires sizes { lawful_sizes (content memory.old) ≡ true }
-        requires full { length numbers.old ≡ 256 }
-        ensures answer { opened_as F.modulus_of F.function_of (content memory.new) result ≡ founding (F.modulus_of family) (F.function_of family) port secret (content memory.old) }
-        ensures memory { (content memory.new) ≡ memory_opened (content memory.old) (founding (F.modulus_of family) (F.function_of family) port secret (content memory.old)) }
+        requires { lawful_sizes (content memory.old) ≡ true }
+        ensures answer { opened_as F.modulus_of F.function_of (content memory.new) result ≡ founding (F.modulus_of gate.family) (F.function_of gate.family) gate.port gate.secret (content memory.old) }
+        ensures memory { (content memory.new) ≡ memory_opened (content memory.old) (founding (F.modulus_of gate.family) (F.function_of gate.family) gate.port gate.secret (content memory.old)) }
         ensures loan { SameLoan memory.old memory.new }
     {
-        if is_fit(&family, secret, numbers) != Some(true) {
-            return Err(StoreRefusal::UnfitSecret);
-        }
-        let opened = Store::found(family, port, secret, memory);
+        check_fit(&gate.family, gate.secret, numbers)?;
+        let opened = Store::found(gate, memory);
         wipe(memory);
         Ok(opened)
     }
@@ -98,6 +91,11 @@ impl<F: CommutingFamily + Drop> Store<F> {
             return Err(StoreRefusal::WrongSizes);
         }
         let guard = Scratch { numbers: scratch };
-        Store::try_open(family, port, secret, memory, guard.numbers)
+        let gate = Gate {
+            family,
+            port,
+            secret,
+        };
+        Store::try_open(gate, memory, guard.numbers.as_mut_array().unwrap())
     }
 }

@@ -1,4 +1,7 @@
 //! Why a store refuses.
+ghost use Rattle.store.specs.declared.refusals.StoreRefusal.TheVariants.{Denied};
+ghost use Rattle.std.specs.Prelude.{◌≡◌};
+
 use admission::Denial;
 
 /// What went wrong.
@@ -18,4 +21,12 @@ pub enum StoreRefusal {
     NoStart,
     /// The directory has rows.
     RowsLeft,
+}
+
+impl From<Denial> for StoreRefusal {
+    ghost from_gives = { λ e r. r ≡ Denied e };
+
+    fn from(e: Denial) -> StoreRefusal {
+        StoreRefusal::Denied(e)
+    }
 }

@@ -3,7 +3,7 @@ ghost use Rattle.store.specs.Refusals.{by_store, store_refusal};
 ghost use Rattle.std.specs.Prelude.{◌≡◌};
 
 use crate::refusals::StoreRefusal;
-use refusal::{Layer, Refusal, Refuse};
+use refusal::{Layer, Refusal};
 
 /// A refusal of the store that has no place.
 fn by_store(number: u8) -> Refusal
@@ -16,11 +16,11 @@ fn by_store(number: u8) -> Refusal
     }
 }
 
-impl Refuse for StoreRefusal {
-    ghost means = { store_refusal };
+impl From<StoreRefusal> for Refusal {
+    ghost from_gives = { λ e r. r ≡ store_refusal e };
 
-    fn refusal(&self) -> Refusal {
-        match *self {
+    fn from(e: StoreRefusal) -> Refusal {
+        match e {
             StoreRefusal::WrongSizes => by_store(1),
             StoreRefusal::UnsoundMemory => by_store(2),
             StoreRefusal::UnfitSecret => by_store(3),

@@ -1,5 +1,6 @@
 //! Revoking: another secret for an object.
-ghost use Rattle.std.specs.Prelude.{◌≡◌, ◌^◌, ◌<◌, true, [], length};
+ghost use Rattle.refusal.specs.Chains.{unless};
+ghost use Rattle.std.specs.Prelude.{◌≡◌, ◌^◌, ◌<◌, true, [], Ok};
 ghost use Rattle.memory.specs.Held.{content};
 ghost use Rattle.memory.specs.Loans.{SameLoan};
 ghost use Rattle.store.specs.Changes.{outcome, settled, told_as};
@@ -9,7 +10,9 @@ ghost use Rattle.store.specs.Requests.{granted, revoke};
 ghost use Rattle.store.specs.Revoking.{fresh, held_anew, kept_anew};
 ghost use Rattle.store.specs.Served.{attempted, served};
 ghost use Rattle.store.specs.Sizes.{sizes_agree};
+ghost use Rattle.store.specs.declared.refusals.StoreRefusal.TheVariants.{UnfitSecret};
 
+use crate::granting::check_fit;
 use crate::keeping::Store;
 use crate::refusals::StoreRefusal;
 use crate::tables::replace;
@@ -17,18 +20,23 @@ use admission::{Asking, Target};
 use family::CommutingFamily;
 use holder::Capability;
 use memory::Memory;
-use secret::{SETS, Scratch, Secret, is_fit};
+use secret::{SETS, Scratch, Secret};
 
 impl<F: CommutingFamily> Store<F> {
-    /// Whether the secret is fit, and not the one that the object has.
-    fn is_fresh(&self, target: Target, secret: Secret, scratch: &mut [u64]) -> bool
-        requires { length scratch.old ≡ 256 }
-        ensures { result ≡ fresh (kept F.modulus_of F.function_of self.now) target secret }
+    /// Refused unless the secret is fit, and not the one that the object has.
+    fn check_fresh(
+        &self,
+        target: Target,
+        secret: Secret,
+        numbers: &mut [u64; SETS],
+    ) -> Result<(), StoreRefusal>
+        ensures { result ≡ unless (fresh (kept F.modulus_of F.function_of self.now) target secret) UnfitSecret (Ok tt) }
     {
-        if is_fit(&self.gate.family, secret, scratch) != Some(true) {
-            return false;
+        check_fit(&self.gate.family, secret, numbers)?;
+        if target.secret(self.gate.secret).same(secret) {
+            return Err(StoreRefusal::UnfitSecret);
         }
-        !target.secret(self.gate.secret).same(secret)
+        Ok(())
     }
 
     /// The object's number.
@@ -71,17 +79,14 @@ impl<F: CommutingFamily> Store<F> {
         memory: &mut Memory,
         capability: Capability,
         secret: Secret,
-        numbers: &mut [u64],
+        numbers: &mut [u64; SETS],
     ) -> Result<Capability, StoreRefusal>
-        requires sizes { sizes_agree (kept F.modulus_of F.function_of self.old) (content memory.old) ≡ true }
-        requires full { length numbers.old ≡ 256 }
+        requires { sizes_agree (kept F.modulus_of F.function_of self.old) (content memory.old) ≡ true }
         ensures outcome { outcome (told_as granted result) (kept F.modulus_of F.function_of self.new) (content memory.new) [] ≡ settled (kept F.modulus_of F.function_of self.old) (content memory.old) [] (attempted (kept F.modulus_of F.function_of self.old) (content memory.old) capability (revoke secret [])) }
         ensures loan { SameLoan memory.old memory.new }
     {
         let target = self.enter(memory, Asking::Revoke, capability)?;
-        if !self.is_fresh(target, secret, numbers) {
-            return Err(StoreRefusal::UnfitSecret);
-        }
+        self.check_fresh(target, secret, numbers)?;
         let grant = self.grant(self.number_of(target), secret);
         self.renew(memory, target, secret);
         Ok(grant)
@@ -102,6 +107,7 @@ impl<F: CommutingFamily> Store<F> {
             return Err(StoreRefusal::WrongSizes);
         }
         let guard = Scratch { numbers: scratch };
-        self.try_revoke(memory, capability, secret, guard.numbers)
+        let numbers = guard.numbers.as_mut_array().unwrap();
+        self.try_revoke(memory, capability, secret, numbers)
     }
 }

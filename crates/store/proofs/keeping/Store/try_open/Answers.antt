@@ -7,13 +7,13 @@ use Rattle.store.proofs.keeping.Store.try_open.Goals as goal
 
 pub returns : goal.returns
 returns g c =
-    let n : ℕ = g.F.CommutingFamily.modulus_of c.args.family in
-    let f : ℕ → ℕ → ℕ = g.F.CommutingFamily.function_of c.args.family in
+    let n : ℕ = g.F.CommutingFamily.modulus_of c.args.gate.family in
+    let f : ℕ → ℕ → ℕ = g.F.CommutingFamily.function_of c.args.gate.family in
     let m : Content = content c.args.memory.now in
-    let fit : is_fit n f c.args.secret.value ≡ true = search rules in
+    let fit : is_fit n f c.args.gate.secret.value ≡ true = search rules in
     record {
-      answer = founded n f c.args.port c.args.secret m fit _ _ _
+      answer = founded n f c.args.gate.port c.args.gate.secret m fit _ _ _
           c.found-opened.ensures.owner c.found-opened.ensures.store c.wipe.ensures.value;
-      memory = founded_over n f c.args.port c.args.secret m fit _ c.wipe.ensures.value;
+      memory = founded_over n f c.args.gate.port c.args.gate.secret m fit _ c.wipe.ensures.value;
       loan = search rules;
     }
