@@ -1,7 +1,7 @@
 -- The test of a start decides its words, so the lowest start that passes is the lowest in words.
 use Rattle.std.proofs.Common.{◌≡◌, ℕ, ◌+◌, ◌<◌, max, Bool, true, false, not, ◌||◌, eqb, leb, List, Some, Decides, Option, sym, refl, ◌∙◌, inl, inr, arith}
 use Rattle.std.proofs.lemmas.Grind.{common_steps}
-use Rattle.std.proofs.lemmas.Bool.{cond-true, cond-false, eq-eqb, ne_eqb, eqb-true, eqb-false, cases_Bool, cases_eq, leb-true, leb-false, le-leb, or_cases, or_parts, false≢true}
+use Rattle.std.proofs.lemmas.Bool.{cond-true, cond-false, eq-eqb, ne_eqb, cases_Bool, cases_eq, leb-true, le-leb, false≢true}
 use Rattle.std.proofs.lemmas.Bool.Decides.{Decides-and, not_from_Decides}
 use Rattle.std.proofs.ByRecursion.{Decides-by_and}
 use Rattle.memory.specs.Every.{every}

@@ -5,7 +5,7 @@ ghost use Rattle.memory.specs.Placement.{Placed, placed};
 use crate::parts::Part;
 use crate::records::FileRecord;
 
-/// The lowest start that is allowed, found from the left: behind each file that is in the way.
+/// The lowest start that is allowed, found from the left, behind each file that is in the way: the value from which both clauses of `place` follow.
 fn first_clear(files: &[FileRecord], area: u64, length: u64) -> Option<u64>
     ensures { result ≡ placed files.now area length }
 {

@@ -1,6 +1,6 @@
 //! The records of files and directories.
 //!
-//! Memory is brought raw by the caller, so a record is a flag beside fields that are there, and judged, also where it is free.
+//! The caller brings memory raw: a flag beside plain numbers, of which any may stand there and are judged, some also where the record is free.
 use holder::{Capability, Mask};
 use secret::Secret;
 

@@ -54,6 +54,7 @@ impl RowTest {
     pub fn directories(self, directories: &[DirectoryRecord], rows: &[Row]) -> bool
         ensures { result ≡ directories_sound self.modulus self.port.bytes directories.now rows.now }
     {
+        // The rest and not a chunk of 16, as a count above 16 goes on into the rows behind.
         let mut rest = rows;
         for directory in directories {
             if !self.directory(directory, rest) {

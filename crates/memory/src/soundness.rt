@@ -61,7 +61,7 @@ fn rows_all_sound<F: CommutingFamily>(family: &F, port: Port, memory: &Memory) -
         && test.directories(memory.directories, memory.rows)
 }
 
-/// The parts of soundness, one after the other.
+/// The parts of soundness, one after the other: the value from which both clauses of `is_sound` follow.
 fn passes_all<F: CommutingFamily>(family: &F, port: Port, memory: &Memory) -> bool
     ensures { result ≡ (secrets_below (F.modulus_of family.now) (content memory.now) && (files_sound (content memory.now) && rows_all_sound (F.modulus_of family.now) port.bytes (content memory.now))) }
 {

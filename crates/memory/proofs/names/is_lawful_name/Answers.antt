@@ -1,4 +1,4 @@
-use Rattle.std.proofs.Common.{rules, tests, ◌≡◌, true, leb, length, ◌∙◌, sym, ap}
+use Rattle.std.proofs.Common.{rules, tests, ◌≡◌, true, leb, length}
 use Rattle.memory.specs.Names.{name_byte}
 use Rattle.memory.proofs.Lists.{every_from_all, passed_and}
 use Rattle.memory.proofs.names.is_lawful_name.Goals as goal
