@@ -22,11 +22,11 @@ kept n f s = record {
   function = f s.gate.family;
   port = s.gate.port;
   own = s.gate.secret;
-  files = s.files;
-  directories = s.directories;
+  files = s.files.size;
+  directories = s.directories.size;
   area = s.area;
-  file_next = s.next_file;
-  directory_next = s.next_directory;
+  file_next = s.files.next;
+  directory_next = s.directories.next;
 }
 
 -- a store as it was opened, over what memory holds then

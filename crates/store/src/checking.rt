@@ -17,9 +17,9 @@ impl<F: CommutingFamily> Store<F> {
     pub(crate) fn sizes_agree(&self, memory: &Memory) -> bool
         ensures { result ≡ sizes_agree (kept F.modulus_of F.function_of self.now) (content memory.now) }
     {
-        memory.files.len() == self.files
-            && memory.directories.len() == self.directories
-            && memory.rows.len() == 16 * self.directories
+        memory.files.len() == self.files.size
+            && memory.directories.len() == self.directories.size
+            && memory.rows.len() == 16 * self.directories.size
             && memory.area.len() == self.area
     }
 

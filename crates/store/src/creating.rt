@@ -12,13 +12,11 @@ ghost use Rattle.store.specs.Sizes.{sizes_agree};
 use crate::granting::check_fit;
 use crate::keeping::Store;
 use crate::refusals::StoreRefusal;
-use crate::tables::give;
 use admission::Asking;
 use family::CommutingFamily;
 use holder::Capability;
 use memory::{Memory, place};
 use secret::{SETS, Scratch, Secret};
-use table::claim;
 
 /// Where a new file goes: its place in the table, and its start in the area.
 #[derive(Clone, Copy)]
@@ -57,7 +55,10 @@ impl<F: CommutingFamily> Store<F> {
         ensures words { IfOk result (RightSpot (kept F.modulus_of F.function_of self.now) (content memory.now) len secret) }
     {
         check_fit(&self.gate.family, secret, numbers)?;
-        let free = claim(memory.files, self.next_file).ok_or(StoreRefusal::NoFreeRecord)?;
+        let free = self
+            .files
+            .claim(memory.files)
+            .ok_or(StoreRefusal::NoFreeRecord)?;
         let area = memory.area.len() as u64;
         let start = place(memory.files, area, len).ok_or(StoreRefusal::NoStart)?;
         Ok(Spot { place: free, start })
@@ -74,7 +75,7 @@ impl<F: CommutingFamily> Store<F> {
         write_bytes(memory.area, spot.start as usize, bytes);
         let old = memory.files[spot.place];
         let new = old.made(secret, spot.start, bytes.len() as u64);
-        self.next_file = give(memory.files, self.next_file, spot.place, new);
+        self.files.give(memory.files, spot.place, new);
     }
 
     /// Creates a file where sizes are right.

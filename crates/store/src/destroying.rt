@@ -11,7 +11,6 @@ ghost use Rattle.store.specs.Served.{attempted, served};
 
 use crate::keeping::Store;
 use crate::refusals::StoreRefusal;
-use crate::tables::free;
 use admission::{Asking, Denial, Target};
 use family::CommutingFamily;
 use holder::Capability;
@@ -49,9 +48,9 @@ impl<F: CommutingFamily> Store<F> {
             Target::Itself => {}
             Target::File(place, record) => {
                 zero_bytes(memory.area, record.start as usize, record.length as usize);
-                free(memory.files, self.next_file, place);
+                self.files.free(memory.files, place);
             }
-            Target::Directory(place, _) => { free(memory.directories, self.next_directory, place) }
+            Target::Directory(place, _) => self.directories.free(memory.directories, place),
         }
     }
 

@@ -12,13 +12,11 @@ ghost use Rattle.store.specs.Sizes.{sizes_agree};
 use crate::granting::check_fit;
 use crate::keeping::Store;
 use crate::refusals::StoreRefusal;
-use crate::tables::give;
 use admission::Asking;
 use family::CommutingFamily;
 use holder::Capability;
 use memory::Memory;
 use secret::{SETS, Scratch, Secret};
-use table::claim;
 
 impl<F: CommutingFamily> Store<F> {
     /// The place of a new directory.
@@ -32,7 +30,9 @@ impl<F: CommutingFamily> Store<F> {
         ensures words { IfOk result (RightPlace (kept F.modulus_of F.function_of self.now) (content memory.now) secret) }
     {
         check_fit(&self.gate.family, secret, numbers)?;
-        claim(memory.directories, self.next_directory).ok_or(StoreRefusal::NoFreeRecord)
+        self.directories
+            .claim(memory.directories)
+            .ok_or(StoreRefusal::NoFreeRecord)
     }
 
     /// Writes the record of a new directory.
@@ -43,7 +43,7 @@ impl<F: CommutingFamily> Store<F> {
         ensures loan { SameLoan memory.old memory.new }
     {
         let new = memory.directories[place].made(secret);
-        self.next_directory = give(memory.directories, self.next_directory, place, new);
+        self.directories.give(memory.directories, place, new);
     }
 
     /// Creates a directory where sizes are right.
@@ -60,7 +60,7 @@ impl<F: CommutingFamily> Store<F> {
     {
         let _ = self.enter(memory, Asking::CreateDirectory, capability)?;
         let place = self.free_directory(memory, secret, numbers)?;
-        let number = 1 + self.files as u64 + place as u64;
+        let number = 1 + self.files.size as u64 + place as u64;
         let grant = self.grant(number, secret);
         self.write_directory(memory, place, secret);
         Ok(grant)

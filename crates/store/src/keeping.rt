@@ -1,16 +1,15 @@
 //! What a store keeps from one request to the next.
 ghost use Rattle.std.specs.Prelude.{◌≤◌};
 
+use crate::tables::Places;
 use admission::Gate;
 
-/// A store: its family, port and secret, the sizes of its memory, and where the next claim begins in each table.
+/// A store: its family, port and secret, what it knows of its two tables, and the size of its area.
 #[derive(Drop)]
 pub struct Store<F> {
     pub(crate) gate: Gate<F>,
-    pub(crate) files: usize,
-    pub(crate) directories: usize,
+    pub(crate) files: Places,
+    pub(crate) directories: Places,
     pub(crate) area: usize,
-    pub(crate) next_file: usize,
-    pub(crate) next_directory: usize,
-    ghost few: { (files ≤ 256) × (directories ≤ 64) },
+    ghost few: { (files.size ≤ 256) × (directories.size ≤ 64) },
 }

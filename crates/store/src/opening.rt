@@ -11,6 +11,7 @@ ghost use Rattle.std.specs.Prelude.{◌≡◌, true};
 use crate::granting::check_fit;
 use crate::keeping::Store;
 use crate::refusals::StoreRefusal;
+use crate::tables::Places;
 use admission::Gate;
 use family::CommutingFamily;
 use holder::{Capability, Port};
@@ -47,11 +48,15 @@ impl<F: CommutingFamily + Drop> Store<F> {
         let secret = gate.secret;
         let store = Store {
             gate,
-            files: memory.files.len(),
-            directories: memory.directories.len(),
+            files: Places {
+                size: memory.files.len(),
+                next: 0,
+            },
+            directories: Places {
+                size: memory.directories.len(),
+                next: 0,
+            },
             area: memory.area.len(),
-            next_file: 0,
-            next_directory: 0,
         };
         let owner = store.grant(0, secret);
         Opened { store, owner }

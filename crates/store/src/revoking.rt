@@ -15,7 +15,6 @@ ghost use Rattle.store.specs.declared.refusals.StoreRefusal.TheVariants.{UnfitSe
 use crate::granting::check_fit;
 use crate::keeping::Store;
 use crate::refusals::StoreRefusal;
-use crate::tables::replace;
 use admission::{Asking, Target};
 use family::CommutingFamily;
 use holder::Capability;
@@ -47,7 +46,7 @@ impl<F: CommutingFamily> Store<F> {
         match target {
             Target::Itself => 0,
             Target::File(place, _) => 1 + place as u64,
-            Target::Directory(place, _) => 1 + self.files as u64 + place as u64,
+            Target::Directory(place, _) => 1 + self.files.size as u64 + place as u64,
         }
     }
 
@@ -60,15 +59,12 @@ impl<F: CommutingFamily> Store<F> {
         match target {
             Target::Itself => self.gate.secret = secret,
             Target::File(place, record) => {
-                replace(memory.files, self.next_file, place, record.renewed(secret))
+                self.files
+                    .replace(memory.files, place, record.renewed(secret))
             }
             Target::Directory(place, record) => {
-                replace(
-                    memory.directories,
-                    self.next_directory,
-                    place,
-                    record.renewed(secret),
-                )
+                self.directories
+                    .replace(memory.directories, place, record.renewed(secret))
             }
         }
     }

@@ -1,32 +1,50 @@
-//! The store's tables, resumed for one change each.
+//! What a store knows of its tables, resumed for one change each.
 ghost use Rattle.std.specs.Prelude.{◌≡◌, ◌+◌, ◌<◌, length, slice_set};
-ghost use Rattle.table.specs.Table.{freed};
+ghost use Rattle.table.specs.Table.{Claimed, claimed, freed};
 
-use table::{Record, Table};
+use table::{Record, Table, claim};
 
-/// Gives a place to a record, and says where the next claim begins.
-pub(crate) fn give<R: Record>(records: &mut [R], next: usize, place: usize, record: R) -> usize
-    requires { place < length records.old }
-    ensures records { records.new ≡ slice_set records.old place «record» }
-    ensures next { result ≡ place + 1 }
-{
-    let mut table = Table::resume(records, next);
-    let _ = table.give(place, record);
-    table.next()
+/// How many records a table has, and where its next claim begins.
+#[derive(Clone, Copy)]
+pub struct Places {
+    pub(crate) size: usize,
+    pub(crate) next: usize,
 }
 
-/// Replaces the record at a place.
-pub(crate) fn replace<R: Record>(records: &mut [R], next: usize, place: usize, record: R)
-    ensures { records.new ≡ slice_set records.old place «record» }
-{
-    let mut table = Table::resume(records, next);
-    let _ = table.put(place, record);
-}
+impl Places {
+    /// The place to claim in the records.
+    pub(crate) fn claim<R: Record>(self, records: &[R]) -> Option<usize>
+        ensures value { result ≡ claimed R.is_live records.now self.next }
+        ensures words { Claimed R.is_live records.now self.next result }
+    {
+        claim(records, self.next)
+    }
 
-/// Frees the record at a place.
-pub(crate) fn free<R: Record>(records: &mut [R], next: usize, place: usize)
-    ensures { records.new ≡ freed R.blank_of records.old place }
-{
-    let mut table = Table::resume(records, next);
-    let _ = table.free(place);
+    /// Gives a place to a record, and goes on from there.
+    pub(crate) fn give<R: Record>(&mut self, records: &mut [R], place: usize, record: R)
+        requires { place < length records.old }
+        ensures records { records.new ≡ slice_set records.old place «record» }
+        ensures size { self.new.size ≡ self.old.size }
+        ensures next { self.new.next ≡ place + 1 }
+    {
+        let mut table = Table::resume(records, self.next);
+        let _ = table.give(place, record);
+        self.next = table.next();
+    }
+
+    /// Replaces the record at a place.
+    pub(crate) fn replace<R: Record>(self, records: &mut [R], place: usize, record: R)
+        ensures { records.new ≡ slice_set records.old place «record» }
+    {
+        let mut table = Table::resume(records, self.next);
+        let _ = table.put(place, record);
+    }
+
+    /// Frees the record at a place.
+    pub(crate) fn free<R: Record>(self, records: &mut [R], place: usize)
+        ensures { records.new ≡ freed R.blank_of records.old place }
+    {
+        let mut table = Table::resume(records, self.next);
+        let _ = table.free(place);
+    }
 }
