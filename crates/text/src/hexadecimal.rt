@@ -47,7 +47,7 @@ pub fn put_hex(out: &mut [u8], at: usize, bytes: &[u8]) -> Option<usize>
     ensures leaves { out.new ≡ after out.old at (hex_text bytes.now) }
     ensures back { read_hex (length bytes.now) (hex_text bytes.now) ≡ Some bytes.now }
 {
-    if at > out.len() || bytes.len() > (out.len() - at) / 2 {
+    if bytes.len() > out.len().checked_sub(at)? / 2 {
         return None;
     }
     for (i, b) in bytes.iter().enumerate() {

@@ -6,8 +6,11 @@ use Rattle.text.proofs.Pairs.{length-hex_text, get_or-hex_text, written_read}
 use Rattle.text.proofs.Room.{room, no_room}
 use Rattle.text.proofs.hexadecimal.put_hex.Goals as goal
 
-pub returns-then-at-out : goal.returns-then-at-out
-returns-then-at-out c =
+pub returns-in_err-checked_sub-clause-back : goal.returns-in_err-checked_sub-clause-back
+returns-in_err-checked_sub-clause-back c = written_read c.args.bytes.now (λ i. omega (arith, c.type_inv.bytes i))
+
+pub returns-then-branch : goal.returns-then-branch
+returns-then-branch c =
     let bytes = c.args.bytes.now in
     let size = length-hex_text bytes in
     let short : length c.args.out.now < c.args.at + length (hex_text bytes) = search rules in
