@@ -35,6 +35,7 @@ pub fn read_hex<const N: usize>(word: &[u8]) -> Option<[u8; N]>
         return None;
     }
     let mut bytes = [0; N];
+    // By an index: what is written through a zipped `iter_mut` is not known afterwards.
     for (i, [high, low]) in pairs.iter().enumerate() {
         bytes[i] = 16 * number_of(*high)? + number_of(*low)?;
     }
@@ -50,6 +51,7 @@ pub fn put_hex(out: &mut [u8], at: usize, bytes: &[u8]) -> Option<usize>
     if bytes.len() > out.len().checked_sub(at)? / 2 {
         return None;
     }
+    // By an index, for the same reason.
     for (i, b) in bytes.iter().enumerate() {
         out[at + 2 * i] = digit_of(*b / 16);
         out[at + 2 * i + 1] = digit_of(*b % 16);

@@ -17,6 +17,7 @@ pub fn put_refusal(out: &mut [u8], at: usize, refusal: Refusal) -> Option<usize>
     ensures gives { result ≡ end_of out.old at (refusal_line refusal) }
     ensures leaves { out.new ≡ after out.old at (refusal_line refusal) }
 {
+    // By its parts: `Display` promises the text, and not that it is written wherever there is room.
     let mut digits = Buffer::new();
     let mut line: ArrayString<MOST> = ArrayString::new();
     line.try_push_str("no ").ok()?;
