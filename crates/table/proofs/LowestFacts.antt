@@ -1,5 +1,5 @@
 -- The laws of the lowest number that passes a test.
-use Rattle.std.proofs.Common.{◌≡◌, ℕ, zero, suc, ◌<◌, Bool, true, false, Some, None, Option, sym, refl, ap, ◌∙◌, subst, ⊎_elim, arith}
+use Rattle.std.proofs.Common.{◌≡◌, ℕ, zero, suc, ◌<◌, Bool, true, false, Some, None, Option, sym, refl, ap, subst, ⊎_elim, arith}
 use Rattle.std.proofs.lemmas.Bool.{both_ways, cases_lt, cases_order}
 use Rattle.table.specs.Lowest.{or_here, lowest, NoneBelow, IsLowest}
 
@@ -51,12 +51,3 @@ some_lowest test n i e = subst (λ (o : Option ℕ). IsLowest test n o) e (is_lo
 
 pub none_lowest : (test : ℕ → Bool) (n : ℕ) → lowest test n ≡ None → NoneBelow test n
 none_lowest test n e = subst (λ (o : Option ℕ). IsLowest test n o) e (is_lowest test n)
-
--- tests that agree below n have the same lowest
-pub lowest_like : (test test' : ℕ → Bool) (n : ℕ) → ((i : ℕ) → i < n → test i ≡ test' i) → lowest test n ≡ lowest test' n
-lowest_like test test' zero e = lowest_zero test ∙ sym (lowest_zero test')
-lowest_like test test' (suc n) e =
-    lowest_suc test n
-    ∙ ap (λ o. or_here o (test n) n) (lowest_like test test' n (λ i h. e i (omega arith)))
-    ∙ ap (λ b. or_here (lowest test' n) b n) (e n (omega arith))
-    ∙ sym (lowest_suc test' n)

@@ -1,5 +1,5 @@
 -- What is read at a place of a list.
-use Rattle.std.proofs.Common.{◌≡◌, ℕ, zero, suc, ◌<◌, ◌≤◌, List, [], ◌∷◌, length, set, Some, None, refl, ap, arith}
+use Rattle.std.proofs.Common.{◌≡◌, ℕ, zero, suc, ◌+◌, ◌<◌, List, [], ◌∷◌, length, set, take, drop, Some, refl, ap, ◌∙◌, arith}
 use Rattle.std.specs.List.{slice_get}
 
 -- after a write
@@ -15,13 +15,20 @@ nth-set_other (y ∷ xs) zero (suc j) x h = refl
 nth-set_other (y ∷ xs) (suc i) zero x h = refl
 nth-set_other (y ∷ xs) (suc i) (suc j) x h = nth-set_other xs i j x (λ e. h (ap suc e))
 
--- a place holds a record exactly below the length
-pub nth_none : {X : Type 0} (xs : List X) (i : ℕ) → slice_get xs i ≡ None → length xs ≤ i
-nth_none [] i e = omega arith
-nth_none (y ∷ xs) zero e = absurd (let z : ◌≡◌ {A = ℕ} 0 1 = cc in omega arith)
-nth_none (y ∷ xs) (suc i) e = omega (arith, nth_none xs i e)
-
+-- a place holds a record only below the length
 pub nth_some : {X : Type 0} (xs : List X) (i : ℕ) (x : X) → slice_get xs i ≡ Some x → i < length xs
 nth_some [] i x e = absurd (let z : ◌≡◌ {A = ℕ} 0 1 = cc in omega arith)
 nth_some (y ∷ xs) zero x e = omega arith
 nth_some (y ∷ xs) (suc i) x e = omega (arith, nth_some xs i x e)
+
+-- in the part before a place, and in the part from it on
+pub nth-take : {X : Type 0} (xs : List X) (n i : ℕ) → i < n → slice_get (take n xs) i ≡ slice_get xs i
+nth-take xs zero i h = absurd (omega arith)
+nth-take [] (suc n) i h = refl
+nth-take (x ∷ xs) (suc n) zero h = refl
+nth-take (x ∷ xs) (suc n) (suc i) h = nth-take xs n i (omega arith)
+
+pub nth-drop : {X : Type 0} (xs : List X) (n i : ℕ) → slice_get (drop n xs) i ≡ slice_get xs (n + i)
+nth-drop xs zero i = let e : i ≡ 0 + i = omega arith in ap (slice_get xs) e
+nth-drop [] (suc n) i = refl
+nth-drop (x ∷ xs) (suc n) i = let e : suc (n + i) ≡ suc n + i = omega arith in nth-drop xs n i ∙ ap (slice_get (x ∷ xs)) e

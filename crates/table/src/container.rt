@@ -3,7 +3,7 @@ ghost use Rattle.table.specs.Table.{Claimed, Found, Freed, claimed, found, freed
 ghost use Rattle.std.specs.Prelude.{◌≡◌, length, nat_lt, slice_set};
 
 use crate::liveness::Record;
-use crate::places::{claim, find, free, put};
+use crate::places::{claim, find};
 
 /// The records of a lent slice, and where the next claim begins: at the place after the last one given.
 #[derive(Drop)]
@@ -19,7 +19,7 @@ impl<'a, R: Record> Table<'a, R> {
         ensures lender { result.records.ghost_name ≡ records.entry.ghost_name }
         ensures next { result.next ≡ 0 }
     {
-        Table { records, next: 0 }
+        Table::resume(records, 0)
     }
 
     /// The table whose next claim begins at `next`, as an earlier loan of its records left it.
@@ -61,7 +61,7 @@ impl<'a, R: Record> Table<'a, R> {
         ensures next { self.new.next ≡ next_after (length self.old.records.now) place self.old.next }
         ensures lender { self.new.records.ghost_name ≡ self.old.records.ghost_name }
     {
-        let given = put(self.records, place, record);
+        let given = self.put(place, record);
         if given {
             self.next = place + 1;
         }
@@ -75,7 +75,12 @@ impl<'a, R: Record> Table<'a, R> {
         ensures next { self.new.next ≡ self.old.next }
         ensures lender { self.new.records.ghost_name ≡ self.old.records.ghost_name }
     {
-        put(self.records, place, record)
+        // By an index: after a slice's `get_mut` a proof knows no element.
+        if place >= self.records.len() {
+            return false;
+        }
+        self.records[place] = record;
+        true
     }
 
     /// Frees the record at a place; says whether there is such a place.
@@ -86,6 +91,10 @@ impl<'a, R: Record> Table<'a, R> {
         ensures next { self.new.next ≡ self.old.next }
         ensures lender { self.new.records.ghost_name ≡ self.old.records.ghost_name }
     {
-        free(self.records, place)
+        if place >= self.records.len() {
+            return false;
+        }
+        self.records[place] = self.records[place].blank();
+        true
     }
 }

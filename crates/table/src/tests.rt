@@ -43,19 +43,12 @@ fn used(number: u8) -> Slot {
 /// Claims a place and gives it the number.
 fn fill(table: &mut Table<Slot>, number: u8) -> Option<usize> {
     let place = table.claim()?;
-    if table.give(place, used(number)) {
-        Some(place)
-    } else {
-        None
-    }
+    table.give(place, used(number)).then_some(place)
 }
 
 /// The number of the live record at a place.
 fn number_at(table: &Table<Slot>, place: usize) -> Option<u8> {
-    match table.find(place) {
-        Some(slot) => Some(slot.number),
-        None => None,
-    }
+    table.find(place).map(|slot| slot.number)
 }
 
 #[test]

@@ -1,10 +1,13 @@
 -- Decimals that are read and written, there and back.
-use Rattle.std.proofs.Common.{◌≡◌, ℕ, ◌^◌, ◌<◌, ◌≤◌, true, cond, ◌⊎◌, List, length, get_or, Some, None, decimal, Option, sym, ap, ◌∙◌, inl, inr, arith}
-use Rattle.std.specs.Str.Parse.{digits_value}
-use Rattle.std.specs.Str.{all_ascii_digits}
+use Rattle.std.proofs.Common.{◌≡◌, ℕ, zero, suc, ◌^◌, ◌<◌, ◌≤◌, true, false, ◌⊎◌, List, [], ◌∷◌, length, get_or, Some, None, Ok, Err, decimal, Option, Result, sym, ap, ◌∙◌, inl, inr, arith}
+use Rattle.std.specs.Char.{is_ascii_digit}
+use Rattle.std.specs.Result.{OkIff, result_ok}
+use Rattle.std.specs.Str.Parse.{digits_value, ParsesUnsigned}
+use Rattle.std.specs.Str.{all_ascii_digits, IsAscii, IsUtf8}
+use Rattle.std.proofs.lemmas.Str.{IsUtf8-from_ascii}
 use Rattle.std.proofs.lemmas.Fmt.{decimal-digits_value, digits_value-decimal, digits_decimal, length-decimal-le, decimal_nonempty, first_decimal, decimal_digit}
-use Rattle.std.proofs.lemmas.Str.Parse.{IsNumeralModel, numerals_by_value, tells_all_ascii_digits, digits_value_short}
-use Rattle.std.proofs.lemmas.Bool.{cases_lt, cond-true}
+use Rattle.std.proofs.lemmas.Str.Parse.{IsNumeralModel, numerals_by_value, tells_all_ascii_digits, digits_value_short, parse_plain}
+use Rattle.std.proofs.lemmas.Bool.{and_parts, cases_lt, cases_Bool, cond-true, cond-false}
 use Rattle.std.proofs.lemmas.Bool.Decides.{nat_tests}
 use Rattle.text.proofs.Chosen.{chosen}
 use Rattle.text.specs.Decimal.{is_decimal, read_decimal}
@@ -40,10 +43,41 @@ read_written word r gives n e =
     let small = digits_value_short own word 15 digits short in
     ap decimal (sym parts.1) ∙ decimal-digits_value own word digits some front (omega arith)
 
--- what is read of a word that has the length and the front of a decimal
-pub read_of :
-    (word : List ℕ) → (1 ≤ length word) × (length word ≤ 15) × ((length word ≡ 1) ⊎ (get_or word 0 0 ≡ 48 → ⊥)) →
-    read_decimal word ≡ cond (all_ascii_digits word) (Some (digits_value 10 word)) None
-read_of word (some, short, front) =
-    let same : is_decimal word ≡ all_ascii_digits word = grind (arith, nat_tests) in
-    ap (λ b. cond b (Some (digits_value 10 word)) None) same
+-- digits are text
+digits_ascii : (word : List ℕ) → all_ascii_digits word ≡ true → IsAscii word
+digits_ascii [] h i = omega arith
+digits_ascii (c ∷ rest) h zero = grind (arith, nat_tests)
+digits_ascii (c ∷ rest) h (suc i) = digits_ascii rest (and_parts (is_ascii_digit c) (all_ascii_digits rest) h).1 i
+
+-- so what is no text is no decimal
+pub unread_bytes : (word : List ℕ) → (IsUtf8 word → ⊥) → None ≡ read_decimal word
+unread_bytes word h =
+    elim (cases_Bool (all_ascii_digits word)) [
+      | inl digits ↦ absurd (h (IsUtf8-from_ascii word (digits_ascii word digits)))
+      | inr other ↦ let test : is_decimal word ≡ false = grind (arith, nat_tests) in sym (cond-false _ _ _ test)
+    ]
+
+-- what `parse` makes of a word with no plus and no needless zero in front
+pub read_parsed :
+    {E : Type 0} (word : List ℕ) (r : Result ℕ E) → ParsesUnsigned 64 10 word r → length word ≤ 15 →
+    (get_or word 0 0 ≡ 43 → ⊥) → (1 < length word → get_or word 0 0 ≡ 48 → ⊥) → result_ok r ≡ read_decimal word
+read_parsed {E} word r h short plus front = by_result r (parse_plain own 64 word r h plus)
+  where
+    by_result :
+        (r : Result ℕ E) →
+        OkIff r ((all_ascii_digits word ≡ true) × (0 < length word) × (digits_value 10 word < 2 ^ 64)) (digits_value 10 word) →
+        result_ok r ≡ read_decimal word
+    by_result (Ok x) known =
+        let digits : all_ascii_digits word ≡ true = known.0.0 in
+        let some : 0 < length word = known.0.1 in
+        let test : is_decimal word ≡ true = grind (arith, nat_tests) in
+        ap Some known.1 ∙ sym (cond-true _ _ _ test)
+    by_result (Err e) fails =
+        elim (cases_Bool (is_decimal word)) [
+          | inl test ↦
+              let digits : all_ascii_digits word ≡ true = grind (arith, nat_tests) in
+              let some : 0 < length word = grind (arith, nat_tests) in
+              let small = digits_value_short own word 15 digits short in
+              absurd (fails (digits, some, omega arith))
+          | inr test ↦ sym (cond-false _ _ _ test)
+        ]

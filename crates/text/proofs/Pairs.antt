@@ -1,8 +1,9 @@
 -- Two hexadecimal digits to a byte, there and back.
-use Rattle.std.proofs.Common.{◌≡◌, ℕ, zero, suc, ◌+◌, ◌-◌, ◌*◌, ◌/◌, ◌%◌, ◌<◌, true, cond, ◌&&◌, eqb, List, [], ◌∷◌, length, get_or, drop, Some, None, Option, sym, refl, ap, ◌∙◌, inl, inr, arith}
+use Rattle.std.proofs.Common.{◌≡◌, ℕ, zero, suc, ◌+◌, ◌-◌, ◌*◌, ◌/◌, ◌%◌, ◌<◌, ◌≤◌, true, cond, ◌&&◌, eqb, List, [], ◌∷◌, length, get_or, drop, Some, None, Option, sym, refl, ap, ◌∙◌, inl, inr, arith}
 use Rattle.std.proofs.lemmas.Bool.{and_parts, and_from, eq-eqb, eqb-true, cond-true, cond-false, cases_Bool}
 use Rattle.std.proofs.lemmas.Bool.Decides.{nat_tests}
 use Rattle.std.proofs.lemmas.List.{drop_more}
+use Rattle.std.specs.Simd.{first_chunks}
 use Rattle.text.proofs.Chosen.{chosen}
 use Rattle.text.specs.Hex.{digit, is_digit, digit_value, hex_text, all_hex, hex_bytes, read_hex}
 
@@ -89,6 +90,28 @@ digit_known c v e =
     let parts = chosen _ (digit_value c) v e in
     let small = (digit_back c parts.0).1 in
     (parts.0, parts.1, omega arith)
+
+-- the digits of the pair at i
+pub pair_at :
+    (pairs : List (List ℕ)) (word : List ℕ) (k i : ℕ) (d : List ℕ) → pairs ≡ first_chunks 2 k word → i < k →
+    2 * k ≤ length word →
+    (get_or (get_or pairs i d) 0 0 ≡ get_or word (2 * i) 0) × (get_or (get_or pairs i d) 1 0 ≡ get_or word (2 * i + 1) 0)
+pair_at pairs word k i d e h l =
+    (ap (λ ps. get_or (get_or ps i d) 0 0) e ∙ (chunk_at word k i d h l).0, ap (λ ps. get_or (get_or ps i d) 1 0) e ∙ (chunk_at word k i d h l).1)
+  where
+    chunk_at :
+        (word : List ℕ) (k i : ℕ) (d : List ℕ) → i < k → 2 * k ≤ length word →
+        (get_or (get_or (first_chunks 2 k word) i d) 0 0 ≡ get_or word (2 * i) 0)
+        × (get_or (get_or (first_chunks 2 k word) i d) 1 0 ≡ get_or word (2 * i + 1) 0)
+    chunk_at word zero i d h l = absurd (omega arith)
+    chunk_at [] (suc k) i d h l = absurd (omega arith)
+    chunk_at (a ∷ []) (suc k) i d h l = absurd (omega arith)
+    chunk_at (a ∷ b ∷ rest) (suc k) zero d h l = (refl, refl)
+    chunk_at (a ∷ b ∷ rest) (suc k) (suc i) d h l =
+        let e : 2 * suc i ≡ suc (suc (2 * i)) = omega arith in
+        let f : 2 * suc i + 1 ≡ suc (suc (2 * i + 1)) = omega arith in
+        let at = chunk_at rest k i d (omega arith) (omega arith) in
+        (at.0 ∙ ap (λ n. get_or (a ∷ b ∷ rest) n 0) (sym e), at.1 ∙ ap (λ n. get_or (a ∷ b ∷ rest) n 0) (sym f))
 
 -- two digits of a word, and what is left behind them
 pub drop_pair :

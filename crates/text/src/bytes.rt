@@ -7,10 +7,7 @@ pub fn put(out: &mut [u8], at: usize, bytes: &[u8]) -> Option<usize>
     ensures gives { result ≡ end_of out.old at bytes.now }
     ensures leaves { out.new ≡ after out.old at bytes.now }
 {
-    if at > out.len() || bytes.len() > out.len() - at {
-        return None;
-    }
-    let end = at + bytes.len();
+    let end = at.checked_add(bytes.len()).filter(|end| *end <= out.len())?;
     out[at..end].copy_from_slice(bytes);
     Some(end)
 }

@@ -30,18 +30,14 @@ pub fn read_hex<const N: usize>(word: &[u8]) -> Option<[u8; N]>
     ensures gives { result ≡ read_hex N word.now }
     ensures back { (bytes : List ℕ) → result ≡ Some bytes → hex_text bytes ≡ word.now }
 {
-    if word.len() % 2 != 0 || word.len() / 2 != N {
+    let (pairs, rest) = word.as_chunks::<2>();
+    if pairs.len() != N || !rest.is_empty() {
         return None;
     }
     let mut bytes = [0; N];
-    for i in 0..N {
-        let Some(high) = number_of(word[2 * i]) else {
-            return None;
-        };
-        let Some(low) = number_of(word[2 * i + 1]) else {
-            return None;
-        };
-        bytes[i] = 16 * high + low;
+    // By an index: what is written through a zipped `iter_mut` is not known afterwards.
+    for (i, [high, low]) in pairs.iter().enumerate() {
+        bytes[i] = 16 * number_of(*high)? + number_of(*low)?;
     }
     Some(bytes)
 }
@@ -52,16 +48,15 @@ pub fn put_hex(out: &mut [u8], at: usize, bytes: &[u8]) -> Option<usize>
     ensures leaves { out.new ≡ after out.old at (hex_text bytes.now) }
     ensures back { read_hex (length bytes.now) (hex_text bytes.now) ≡ Some bytes.now }
 {
-    if at > out.len() || bytes.len() > (out.len() - at) / 2 {
+    if bytes.len() > out.len().checked_sub(at)? / 2 {
         return None;
     }
-    let mut end = at;
-    for b in bytes {
-        out[end] = digit_of(*b / 16);
-        out[end + 1] = digit_of(*b % 16);
-        end += 2;
+    // By an index, for the same reason.
+    for (i, b) in bytes.iter().enumerate() {
+        out[at + 2 * i] = digit_of(*b / 16);
+        out[at + 2 * i + 1] = digit_of(*b % 16);
     }
-    Some(end)
+    Some(at + 2 * bytes.len())
 }
 
 /// Bytes, shown as `put_hex` writes them.

@@ -4,7 +4,8 @@ ghost use Rattle.text.specs.Put.{after, end_of};
 ghost use Rattle.text.specs.RefusalLine.{refusal_line};
 
 use crate::bytes::put;
-use crate::decimal::put_decimal;
+use arrayvec::ArrayString;
+use itoa::Buffer;
 use refusal::Refusal;
 use std::fmt;
 
@@ -16,12 +17,16 @@ pub fn put_refusal(out: &mut [u8], at: usize, refusal: Refusal) -> Option<usize>
     ensures gives { result ≡ end_of out.old at (refusal_line refusal) }
     ensures leaves { out.new ≡ after out.old at (refusal_line refusal) }
 {
-    let mut line = [0; MOST];
-    let end = put(&mut line, 0, b"no ")?;
-    let end = put_decimal(&mut line, end, u64::from(refusal.number))?;
-    let end = put(&mut line, end, &[b' ', refusal.layer.letter() as u8, b' '])?;
-    let end = put_decimal(&mut line, end, u64::from(refusal.place))?;
-    put(out, at, &line[0..end])
+    // By its parts: `Display` promises the text, and not that it is written wherever there is room.
+    let mut digits = Buffer::new();
+    let mut line: ArrayString<MOST> = ArrayString::new();
+    line.try_push_str("no ").ok()?;
+    line.try_push_str(digits.format(refusal.number)).ok()?;
+    line.try_push_str(" ").ok()?;
+    line.try_push(refusal.layer.letter()).ok()?;
+    line.try_push_str(" ").ok()?;
+    line.try_push_str(digits.format(refusal.place)).ok()?;
+    put(out, at, line.as_bytes())
 }
 
 /// A refusal, shown as `put_refusal` writes it.
