@@ -39,7 +39,7 @@ fn without_right<F: CommutingFamily>(
     }
     Ok(Capability {
         rights: Rights {
-            bits: held & (255 - (1 << k)),
+            bits: held & !(1 << k),
         },
         check: Check::new(family.apply(k, number)).unwrap(),
         ..capability
@@ -58,7 +58,7 @@ fn within_mask<F: CommutingFamily>(
 {
     judged(family, number)?;
     let held = capability.rights.bits;
-    let thinned = thin_number(family, number, held & (255 - mask));
+    let thinned = thin_number(family, number, held & !mask);
     Ok(Capability {
         rights: Rights { bits: held & mask },
         check: Check::new(thinned).unwrap(),

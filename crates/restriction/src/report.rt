@@ -48,7 +48,7 @@ impl fmt::Display for Report {
         let held = self.whole.rights.bits;
         let rights = Listed { set: held };
         let dropped = Listed {
-            set: held & (255 - self.rest.rights.bits),
+            set: held & !self.rest.rights.bits,
         };
         let rest = <[u8; 16]>::from(self.rest);
         let rest = Hex { bytes: &rest };

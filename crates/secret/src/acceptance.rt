@@ -23,7 +23,7 @@ fn matches<F: CommutingFamily>(family: &F, s: u64, byte: u8, v: u64) -> bool
     if !plausible(family, v) {
         return false;
     }
-    v == thin_number(family, s, 255 - byte)
+    v == thin_number(family, s, !byte)
 }
 
 impl Secret {
