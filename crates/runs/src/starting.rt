@@ -8,26 +8,23 @@ ghost use Rattle.std.specs.Prelude.{◌≡◌, IfOk};
 ghost use Rattle.store.specs.Held.{opened_as};
 ghost use Rattle.store.specs.Opened.{memory_opened, opening, scratch_opened};
 
+use admission::Gate;
 use family::CommutingFamily;
-use holder::Port;
 use memory::Memory;
-use secret::Secret;
 use store::{Opened, Store, StoreRefusal};
 
 /// Opens a store: wipes all memory, and gives the store with the owner capability of object 0.
 pub fn open<F: CommutingFamily + Drop>(
-    family: F,
-    port: Port,
-    secret: Secret,
+    gate: Gate<F>,
     memory: &mut Memory,
     scratch: &mut [u64],
 ) -> Result<Opened<F>, StoreRefusal>
-    ensures answer { opened_as F.modulus_of F.function_of (content memory.new) result ≡ opening (F.modulus_of family) (F.function_of family) port secret (content memory.old) scratch.old }
-    ensures memory { content memory.new ≡ memory_opened (content memory.old) (opening (F.modulus_of family) (F.function_of family) port secret (content memory.old) scratch.old) }
+    ensures answer { opened_as F.modulus_of F.function_of (content memory.new) result ≡ opening (F.modulus_of gate.family) (F.function_of gate.family) gate.port gate.secret (content memory.old) scratch.old }
+    ensures memory { content memory.new ≡ memory_opened (content memory.old) (opening (F.modulus_of gate.family) (F.function_of gate.family) gate.port gate.secret (content memory.old) scratch.old) }
     ensures scratch { scratch.new ≡ scratch_opened (content memory.old) scratch.old }
     ensures loan { SameLoan memory.old memory.new }
     ensures requests { RequestLaws }
-    ensures law { IfOk result (λ opened. LawOfRuns (F.modulus_of family) (F.function_of family) (first_grant opened secret) (start_state F.modulus_of F.function_of opened (content memory.new))) }
+    ensures law { IfOk result (λ opened. LawOfRuns (F.modulus_of gate.family) (F.function_of gate.family) (first_grant opened gate.secret) (start_state F.modulus_of F.function_of opened (content memory.new))) }
 {
-    Store::open(family, port, secret, memory, scratch)
+    Store::open(gate, memory, scratch)
 }

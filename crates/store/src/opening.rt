@@ -14,9 +14,9 @@ use crate::refusals::StoreRefusal;
 use crate::tables::Places;
 use admission::Gate;
 use family::CommutingFamily;
-use holder::{Capability, Port};
+use holder::Capability;
 use memory::{Memory, wipe};
-use secret::{SETS, Scratch, Secret};
+use secret::{SETS, Scratch};
 
 /// A new store, and the owner capability of object 0.
 #[derive(Drop)]
@@ -81,14 +81,12 @@ impl<F: CommutingFamily + Drop> Store<F> {
 
     /// Opens a store: wipes all memory, and gives the store with the owner capability of object 0.
     pub fn open(
-        family: F,
-        port: Port,
-        secret: Secret,
+        gate: Gate<F>,
         memory: &mut Memory,
         scratch: &mut [u64],
     ) -> Result<Opened<F>, StoreRefusal>
-        ensures answer { opened_as F.modulus_of F.function_of (content memory.new) result ≡ opening (F.modulus_of family) (F.function_of family) port secret (content memory.old) scratch.old }
-        ensures memory { (content memory.new) ≡ memory_opened (content memory.old) (opening (F.modulus_of family) (F.function_of family) port secret (content memory.old) scratch.old) }
+        ensures answer { opened_as F.modulus_of F.function_of (content memory.new) result ≡ opening (F.modulus_of gate.family) (F.function_of gate.family) gate.port gate.secret (content memory.old) scratch.old }
+        ensures memory { (content memory.new) ≡ memory_opened (content memory.old) (opening (F.modulus_of gate.family) (F.function_of gate.family) gate.port gate.secret (content memory.old) scratch.old) }
         ensures scratch { scratch.new ≡ scratch_opened (content memory.old) scratch.old }
         ensures loan { SameLoan memory.old memory.new }
     {
@@ -96,11 +94,6 @@ impl<F: CommutingFamily + Drop> Store<F> {
             return Err(StoreRefusal::WrongSizes);
         }
         let guard = Scratch { numbers: scratch };
-        let gate = Gate {
-            family,
-            port,
-            secret,
-        };
         Store::try_open(gate, memory, guard.numbers.as_mut_array().unwrap())
     }
 }

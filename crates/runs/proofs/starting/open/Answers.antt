@@ -8,7 +8,7 @@ use Rattle.runs.proofs.starting.open.Goals as goal
 pub returns : goal.returns
 returns g c =
     let met = g.met.F.CommutingFamily in
-    let own = c.args.family in
+    let own = c.args.gate.family in
     let n : ℕ = g.F.CommutingFamily.modulus_of own in
     let f : ℕ → ℕ → ℕ = g.F.CommutingFamily.function_of own in
     let family : Commuting n f = met.laws own in
@@ -18,6 +18,6 @@ returns g c =
       scratch = c.open.ensures.scratch;
       loan = c.open.ensures.loan;
       requests = request_laws;
-      law = opening_keeps n f family c.args.port c.args.secret (content c.args.memory.now) c.args.scratch.now
+      law = opening_keeps n f family c.args.gate.port c.args.gate.secret (content c.args.memory.now) c.args.scratch.now
           g.F.CommutingFamily.modulus_of g.F.CommutingFamily.function_of _ _ c.open.ensures.answer;
     }
