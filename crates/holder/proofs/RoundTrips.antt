@@ -5,9 +5,6 @@ use Rattle.holder.specs.Layout.{written, parts, as_read}
 use Rattle.holder.specs.declared.capability.Capability.{Capability}
 use Rattle.holder.proofs.Spelled.{spelled}
 
-pub written_parts : (bs : List ℕ) → length bs ≡ 16 → written (parts bs) ≡ bs
-written_parts bs e = ap (λ x. written (parts x)) (spelled bs 16 e) ∙ sym (spelled bs 16 e)
-
 -- a list's elements at the places 0 to w − 1
 abbrev at : List ℕ → ℕ → List ℕ
 at bs w = map (λ i. get_or bs i 0) (range_with_len 0 w)
