@@ -10,24 +10,26 @@ use Rattle.store.specs.declared.refusals.StoreRefusal.{StoreRefusal}
 use Rattle.store.specs.declared.requests.Answer.{Answer}
 
 -- what `map` gives, where the function that it takes makes an answer
-pub mapped : {A B E : Type 0} (post : A → B → Type 0) (make : A → B) (r : Result A E) (out : Result B E) → ((x : A) (y : B) → post x y → y ≡ make x)
+mapped : {A B E : Type 0} (post : A → B → Type 0) (make : A → B) (r : Result A E) (out : Result B E) → ((x : A) (y : B) → post x y → y ≡ make x)
     → MatchResult r (λ x. IsOkAnd out (post x)) (λ e. out ≡ Err e) → out ≡ result_map_both make (λ e. e) r
 mapped post make (Ok x) (Ok y) means h = ap Ok (means x y h)
 mapped post make (Ok x) (Err e) means h = absurd h
 mapped post make (Err e) out means h = h
 
--- an answer made from a call's own tells what that tells
-pub told_alike : {A : Type 0} (area : List ℕ) (tell : A → Told) (make : A → Answer) (r : Result A StoreRefusal) (a : Result Answer StoreRefusal)
-    → ((x : A) → tell_in area (make x) ≡ tell x) → a ≡ result_map_both make (λ e. e) r → told_as (tell_in area) a ≡ told_as tell r
-told_alike {A} area tell make r a same e = ap (told_as (tell_in area)) e ∙ each r
+-- an answer made from a call's own by `map` tells what that tells
+pub told_alike : {A : Type 0} (area : List ℕ) (tell : A → Told) (make : A → Answer) (post : A → Answer → Type 0) (r : Result A StoreRefusal) (a : Result Answer StoreRefusal)
+    → ((x : A) → tell_in area (make x) ≡ tell x) → ((x : A) (y : Answer) → post x y → y ≡ make x)
+    → MatchResult r (λ x. IsOkAnd a (post x)) (λ e. a ≡ Err e) → told_as (tell_in area) a ≡ told_as tell r
+told_alike {A} area tell make post r a same means h = ap (told_as (tell_in area)) (mapped post make r a means h) ∙ each r
   where
     each : (r : Result A StoreRefusal) → told_as (tell_in area) (result_map_both make (λ e. e) r) ≡ told_as tell r
     each (Ok x) = ap Ok (same x)
     each (Err e) = refl
 
 -- and so does the whole outcome
-pub served_alike : {A : Type 0} (area : List ℕ) (tell : A → Told) (make : A → Answer) (r : Result A StoreRefusal) (a : Result Answer StoreRefusal)
+pub served_alike : {A : Type 0} (area : List ℕ) (tell : A → Told) (make : A → Answer) (post : A → Answer → Type 0) (r : Result A StoreRefusal) (a : Result Answer StoreRefusal)
     (k : Kept) (m : Content) (scratch : List ℕ) (o : Outcome)
-    → ((x : A) → tell_in area (make x) ≡ tell x) → a ≡ result_map_both make (λ e. e) r → outcome (told_as tell r) k m scratch ≡ o
+    → ((x : A) → tell_in area (make x) ≡ tell x) → ((x : A) (y : Answer) → post x y → y ≡ make x)
+    → MatchResult r (λ x. IsOkAnd a (post x)) (λ e. a ≡ Err e) → outcome (told_as tell r) k m scratch ≡ o
     → outcome (told_as (tell_in area) a) k m scratch ≡ o
-served_alike area tell make r a k m scratch o same e q = ap (λ x. outcome x k m scratch) (told_alike area tell make r a same e) ∙ q
+served_alike area tell make post r a k m scratch o same means h q = ap (λ x. outcome x k m scratch) (told_alike area tell make post r a same means h) ∙ q
