@@ -29,7 +29,7 @@ impl Asking {
         }
     }
 
-    /// The right that is asked for.
+    /// The number of the right that is asked for.
     pub fn right(self) -> u8
         ensures value { result ≡ right_asked self }
         ensures one { result < 8 }

@@ -3,6 +3,8 @@ ghost use Rattle.std.specs.Prelude.{◌≡◌, ℕ, ◌<◌};
 ghost use Rattle.family.specs.Commuting.{Commuting, asked};
 
 /// A modulus n and eight functions f_0 to f_7 on the numbers below n that commute, one for each right.
+///
+/// A right is its number k, the k of f_k and of bit k; whoever asks for one above 7 is answered too, so it is no enum.
 pub trait CommutingFamily {
     /// The family's letter, the same for all its values.
     const LETTER: char;

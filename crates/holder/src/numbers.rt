@@ -1,4 +1,6 @@
 //! Objects and checks as numbers, high byte first.
+//!
+//! Methods and not `From` and `TryFrom`, as `new` and `get` of std's `NonZeroU64`: the one failure needs no name, and the call says which number is meant.
 ghost use Rattle.std.specs.Prelude.{◌≡◌, ◌*◌, ◌^◌, ◌<◌, ◌≤◌, MatchOption};
 ghost use Rattle.holder.specs.Bytes.{number, bytes_of};
 

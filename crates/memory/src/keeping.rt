@@ -1,4 +1,6 @@
 //! Records as a table keeps them, and new ones made from old.
+//!
+//! Files and directories have different fields; what is alike in them is a line each, and a trait for it would be longer.
 ghost use Rattle.memory.specs.Records.{blank_directory, blank_file, made_directory, made_file, renewed_directory, renewed_file};
 ghost use Rattle.std.specs.Prelude.{◌≡◌};
 ghost use Rattle.std.proofs.Common.{rules};

@@ -37,7 +37,7 @@ impl<'a> Name<'a> {
         is_lawful_name(bytes).then_some(Name { bytes })
     }
 
-    /// Whether two names are the same.
+    /// Whether two names are the same: by the one definition of sameness, for which no derived equality stands in.
     pub fn same(self, other: Name) -> bool
         ensures { result ≡ same_bytes self.entry.bytes.now other.entry.bytes.now }
     {

@@ -33,6 +33,8 @@ impl Layer {
 }
 
 /// A refusal as a plain value. The refusal enum of each layer converts into it, by `From`.
+///
+/// Number and place are those of the printed line, which each layer gives its own cases; so they stay numbers.
 #[derive(Clone, Copy, PartialEq, Eq, Debug)]
 pub struct Refusal {
     pub number: u8,

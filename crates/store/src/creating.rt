@@ -113,6 +113,7 @@ impl<F: CommutingFamily> Store<F> {
         if !self.sizes_agree(memory) || scratch.len() != SETS {
             return Err(StoreRefusal::WrongSizes);
         }
+        // The guard is made here, as in the other calls: a function that gives it in an Option cannot say what a refusal leaves in the scratch.
         let guard = Scratch { numbers: scratch };
         let numbers = guard.numbers.as_mut_array().unwrap();
         self.try_file(memory, capability, bytes, secret, numbers)

@@ -1,4 +1,6 @@
 //! The store: files that never change and directories, kept in memory that its caller brings to each request.
+//!
+//! Each request takes memory and the capability presented as parameters of their own: the first is lent, the second given.
 #![tactic(auto)]
 
 mod checking;

@@ -32,7 +32,7 @@ impl<F: CommutingFamily> Store<F> {
         ensures { result ≡ unless (fresh (kept F.modulus_of F.function_of self.now) target secret) UnfitSecret (Ok tt) }
     {
         check_fit(&self.gate.family, secret, numbers)?;
-        if target.secret(self.gate.secret).same(secret) {
+        if target.secret(self.gate.secret) == secret {
             return Err(StoreRefusal::UnfitSecret);
         }
         Ok(())

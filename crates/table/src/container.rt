@@ -54,7 +54,7 @@ impl<'a, R: Record> Table<'a, R> {
         claim(self.records, self.next)
     }
 
-    /// Writes a record at a place and goes on from there; says whether there is such a place.
+    /// Writes a record at a place and goes on from there; says whether there is such a place, by a truth value, since there is nothing to give back.
     pub fn give(&mut self, place: usize, record: R) -> bool
         ensures answer { result ≡ nat_lt place (length self.old.records.now) }
         ensures records { self.new.records.now ≡ slice_set self.old.records.now place «record» }

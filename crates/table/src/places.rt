@@ -1,4 +1,6 @@
 //! The records of a lent slice by their places, and the first free place going round.
+//!
+//! For whoever only reads; a table, which borrows its records to write, has methods that hand on to these.
 ghost use Rattle.std.specs.Prelude.{◌≡◌, ◌<◌, IfSome, length, not, position};
 ghost use Rattle.table.specs.Table.{Claimed, Found, claimed, found};
 
