@@ -8,9 +8,6 @@ use Rattle.holder.proofs.numbers.number_of.Goals as goal
 pub overflow_mul-n : goal.overflow_mul-n
 overflow_mul-n g c = omega (arith, c.loop-b.invariant.1, room c.loop-b.b-index (omega arith))
 
-pub overflow_add-n : goal.overflow_add-n
-overflow_add-n g c = omega (arith, c.loop-b.invariant.1, room c.loop-b.b-index (omega arith))
-
 pub loop-b-preserved : goal.loop-b-preserved
 loop-b-preserved g c =
     let bytes = c.args.bytes.now in
@@ -24,6 +21,3 @@ loop-b-preserved g c =
           ∙ sym (ap number (take_more bytes i 0 (omega arith))),
       omega (arith, wide, below),
     )
-
-pub returns : goal.returns
-returns g c = c.loop-b.invariant.0 ∙ ap number (take_all c.loop-b.b-index c.args.bytes.now (omega arith))

@@ -40,11 +40,3 @@ loop-k-preserved g c = λ p.
           rw w.f-is (has_written_of_eq took _ _ _ _ text (has_written_append took _ _ _ _ _ before wrote))
       | else-has_right w ↦ rw w.f-is (has_written_of_eq took _ _ _ _ (below_missing set k (held ∙ w.if-has_right.false)) before)
     ]
-
-pub returns-clause-writes : goal.returns-clause-writes
-returns-clause-writes g c = λ p _.
-    let set : ℕ = c.args.self.now.set in
-    let all : c.loop-k.k-counter ≡ 8 = omega arith in
-    let text : numbers_below set c.loop-k.k-counter ≡ cond (eqb set 0) (codes " none") (numbers_below set 8) =
-    ap (numbers_below set) all ∙ sym (cond-false (eqb set 0) (codes " none") (numbers_below set 8) (ne_eqb set 0 c.if-self-eq0.false)) in
-    has_written_of_eq g.W.Write.write_str_gives _ _ _ _ text (c.loop-k.invariant p)
