@@ -6,7 +6,7 @@ use crate::commuting::CommutingFamily;
 use crate::dickson_polynomials::Dickson;
 use crate::modular_powers::Powers;
 use crate::modulus::FamilyRefusal;
-use crate::thinning::thin_number;
+use crate::thinning::{has_right, thin_number};
 use refusal::{Layer, Refusal};
 use std::test::Fail;
 
@@ -103,6 +103,15 @@ fn dickson_at_three(rt: HostRuntime) -> Result<(), Fail> {
     assert_eq!(rt; d.apply(8, 3), 3, "no such right");
     assert_eq!(rt; d.apply(7, 101), 101, "not below the modulus");
     Ok(())
+}
+
+#[test]
+fn rights_of_a_byte(rt: HostRuntime) {
+    assert_eq!(rt; has_right(0b1000_0001, 0), true);
+    assert_eq!(rt; has_right(0b1000_0001, 1), false);
+    assert_eq!(rt; has_right(0b1000_0001, 7), true);
+    assert_eq!(rt; has_right(255, 8), false, "no such right");
+    assert_eq!(rt; has_right(255, 264), false, "not its low byte");
 }
 
 #[test]
