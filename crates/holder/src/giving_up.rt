@@ -19,7 +19,7 @@ fn judged<F: CommutingFamily>(family: &F, number: u64) -> Result<(), HolderRefus
     Ok(())
 }
 
-/// The capability without right k; `number` is that of its check.
+/// The capability without right k; `number` is that of its check, whose own contract the laws of the public calls need.
 fn without_right<F: CommutingFamily>(
     family: &F,
     capability: Capability,

@@ -34,8 +34,7 @@ impl Object {
     pub fn number(self) -> u64
         ensures { result ≡ number self.bytes }
     {
-        let Object { bytes } = self;
-        number_of(&bytes)
+        number_of::<3>(&self.bytes)
     }
 
     /// The object of a number, if it fits 24 bits.
@@ -54,7 +53,7 @@ impl Check {
         ensures narrow { result < 2 ^ 48 }
         ensures back { bytes_of 6 result ≡ self.bytes }
     {
-        number_of(&self.bytes)
+        number_of::<6>(&self.bytes)
     }
 
     /// The check of a number, if it fits 48 bits.
