@@ -26,7 +26,7 @@ fn permit(asking: Asking, target: Target, rights: Rights) -> Result<Target, Deni
     if !asking.fits(target) {
         return Err(Denial::WrongKind);
     }
-    if !has_right(rights.bits, u64::from(asking.right())) {
+    if !has_right(rights.bits, asking.right()) {
         return Err(Denial::RightMissing);
     }
     Ok(target)

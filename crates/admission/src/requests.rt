@@ -30,7 +30,7 @@ impl Asking {
     }
 
     /// The number of the right that is asked for.
-    pub fn right(self) -> u8
+    pub fn right(self) -> u64
         ensures value { result ≡ right_asked self }
         ensures one { result < 8 }
     {

@@ -37,7 +37,7 @@ impl<'a> Name<'a> {
         is_lawful_name(bytes).then_some(Name { bytes })
     }
 
-    /// Whether two names are the same: by the one definition of sameness, for which no derived equality stands in.
+    /// Whether two names are the same; it is a rule of the store that names are compared by one function, and not by a derived equality.
     pub fn same(self, other: Name) -> bool
         ensures { result ≡ same_bytes self.entry.bytes.now other.entry.bytes.now }
     {

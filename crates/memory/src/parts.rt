@@ -21,7 +21,7 @@ impl Part {
             .is_some_and(|end| end <= limit)
     }
 
-    /// Whether the part shares no byte with a file, or there is no file.
+    /// Whether the part shares no byte with a file, or the record is free.
     pub fn is_clear_of(self, file: &FileRecord) -> bool
         ensures { result ≡ clear_of self.start self.length file.now }
     {

@@ -31,7 +31,7 @@ impl RowTest {
     {
         is_lawful_name(row.name())
             && row.length <= 24
-            && are_same_bytes(&row.capability.port.bytes, &self.port.bytes)
+            && row.capability.port == self.port
             && row.capability.check.number() < self.modulus
     }
 

@@ -19,7 +19,7 @@ pub enum Layer {
 }
 
 impl Layer {
-    /// The letter that stands for the layer in a refusal line.
+    /// The letter that stands for the layer in a refusal line; a `char`, for lines that are shown and for those put into a buffer.
     pub fn letter(self) -> char
         ensures { result ≡ layer_letter self }
     {

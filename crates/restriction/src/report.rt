@@ -21,8 +21,8 @@ impl fmt::Display for Listed {
         if self.set == 0 {
             return f.write_str(" none");
         }
-        for k in 0..8u8 {
-            if has_right(self.set, u64::from(k)) {
+        for k in 0..8u64 {
+            if has_right(self.set, k) {
                 write!(f, " {k}")?;
             }
         }

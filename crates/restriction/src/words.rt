@@ -6,7 +6,7 @@ use crate::request::{FamilyLetter, Misuse, Request};
 use holder::{Capability, Mask};
 use text::{read_decimal, read_hex};
 
-/// The family with the letter that stands alone in the word.
+/// The family with the letter that stands alone in the word, by the letter itself and not by its byte.
 fn read_letter(word: &[u8]) -> Option<FamilyLetter>
     ensures { result ≡ read_letter word.now }
 {

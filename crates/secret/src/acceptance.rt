@@ -20,10 +20,7 @@ fn plausible<F: CommutingFamily>(family: &F, v: u64) -> bool
 fn matches<F: CommutingFamily>(family: &F, s: u64, byte: u8, v: u64) -> bool
     ensures { result ≡ matching (F.modulus_of family.now) (F.function_of family.now) s (has (255 - byte)) v }
 {
-    if !plausible(family, v) {
-        return false;
-    }
-    v == thin_number(family, s, !byte)
+    plausible(family, v) && v == thin_number(family, s, !byte)
 }
 
 impl Secret {

@@ -19,7 +19,7 @@ impl Secret {
         Secret { value: n }
     }
 
-    /// Whether two secrets are one: `==` by a name.
+    /// Whether two secrets are one, the same as `==`.
     pub fn same(self, other: Secret) -> bool
         ensures { result ≡ (self.value == other.value) }
     {

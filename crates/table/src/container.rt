@@ -5,7 +5,7 @@ ghost use Rattle.std.specs.Prelude.{◌≡◌, length, nat_lt, slice_set};
 use crate::liveness::Record;
 use crate::places::{claim, find};
 
-/// The records of a lent slice, and where the next claim begins: at the place after the last one given.
+/// The records of a lent slice, and where the next claim begins: at the place after the last one given, which is no part of what is lent.
 #[derive(Drop)]
 pub struct Table<'a, R> {
     records: &'a mut [R],
@@ -54,7 +54,9 @@ impl<'a, R: Record> Table<'a, R> {
         claim(self.records, self.next)
     }
 
-    /// Writes a record at a place and goes on from there; says whether there is such a place, by a truth value, since there is nothing to give back.
+    /// Writes a record at a place and goes on from there; says whether there is such a place.
+    ///
+    /// By a truth value, here and below, since there is nothing to give back.
     pub fn give(&mut self, place: usize, record: R) -> bool
         ensures answer { result ≡ nat_lt place (length self.old.records.now) }
         ensures records { self.new.records.now ≡ slice_set self.old.records.now place «record» }
@@ -76,11 +78,11 @@ impl<'a, R: Record> Table<'a, R> {
         ensures lender { self.new.records.ghost_name ≡ self.old.records.ghost_name }
     {
         // By an index: after a slice's `get_mut` a proof knows no element.
-        if place >= self.records.len() {
-            return false;
+        let there = place < self.records.len();
+        if there {
+            self.records[place] = record;
         }
-        self.records[place] = record;
-        true
+        there
     }
 
     /// Frees the record at a place; says whether there is such a place.
@@ -94,7 +96,7 @@ impl<'a, R: Record> Table<'a, R> {
         if place >= self.records.len() {
             return false;
         }
-        self.records[place] = self.records[place].blank();
-        true
+        let blank = self.records[place].blank();
+        self.put(place, blank)
     }
 }

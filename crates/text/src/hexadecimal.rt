@@ -1,11 +1,11 @@
 //! Bytes as hexadecimal digits in small letters, two digits to a byte, the high one first.
-ghost use Rattle.std.specs.Prelude.{◌≡◌, ℕ, ◌<◌, List, length, if◌then◌else◌, Some, None};
+ghost use Rattle.std.specs.Prelude.{◌≡◌, ℕ, ◌/◌, ◌%◌, ◌<◌, List, length, if◌then◌else◌, Some, None};
 ghost use Rattle.text.specs.Hex.{digit, digit_value, hex_text, is_digit, read_hex};
 ghost use Rattle.text.specs.Put.{after, end_of};
 
 use std::fmt;
 
-/// The number that a small hexadecimal digit stands for.
+/// The number that a small hexadecimal digit stands for; the library's `to_digit` takes capitals too.
 fn number_of(c: u8) -> Option<u8>
     ensures { result ≡ (if is_digit c then Some (digit_value c) else None) }
 {
@@ -23,6 +23,15 @@ fn digit_of(n: u8) -> u8
     ensures ascii { result < 128 }
 {
     if n < 10 { b'0' + n } else { b'a' + (n - 10) }
+}
+
+/// The two digits of a byte, the high one first.
+fn digits_of(byte: u8) -> (u8, u8)
+    ensures high { result.0 ≡ digit (byte / 16) }
+    ensures low { result.1 ≡ digit (byte % 16) }
+    ensures ascii { (result.0 < 128) × (result.1 < 128) }
+{
+    (digit_of(byte / 16), digit_of(byte % 16))
 }
 
 /// Reads the `N` bytes that exactly `2 * N` small hexadecimal digits stand for; None for any other word.
@@ -43,6 +52,8 @@ pub fn read_hex<const N: usize>(word: &[u8]) -> Option<[u8; N]>
 }
 
 /// Writes two small hexadecimal digits for each byte, as `put` writes bytes.
+///
+/// Not by `Display`, which promises nothing of when a write fails.
 pub fn put_hex(out: &mut [u8], at: usize, bytes: &[u8]) -> Option<usize>
     ensures gives { result ≡ end_of out.old at (hex_text bytes.now) }
     ensures leaves { out.new ≡ after out.old at (hex_text bytes.now) }
@@ -51,10 +62,11 @@ pub fn put_hex(out: &mut [u8], at: usize, bytes: &[u8]) -> Option<usize>
     if bytes.len() > out.len().checked_sub(at)? / 2 {
         return None;
     }
-    // By an index, for the same reason.
+    // By an index, since what is written through a zipped `iter_mut` is not known afterwards.
     for (i, b) in bytes.iter().enumerate() {
-        out[at + 2 * i] = digit_of(*b / 16);
-        out[at + 2 * i + 1] = digit_of(*b % 16);
+        let (high, low) = digits_of(*b);
+        out[at + 2 * i] = high;
+        out[at + 2 * i + 1] = low;
     }
     Some(at + 2 * bytes.len())
 }
@@ -70,8 +82,9 @@ impl fmt::Display for Hex<'_> {
 
     fn fmt<W: fmt::Write>(&self, f: &mut fmt::Formatter<W>) -> fmt::Result {
         for b in self.bytes {
-            f.write_char(digit_of(*b / 16) as char)?;
-            f.write_char(digit_of(*b % 16) as char)?;
+            let (high, low) = digits_of(*b);
+            f.write_char(high as char)?;
+            f.write_char(low as char)?;
         }
         Ok(())
     }

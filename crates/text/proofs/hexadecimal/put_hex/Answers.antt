@@ -39,6 +39,8 @@ loop-i-preserved c =
     let next : at + 2 * i + 1 ≡ at + (2 * i + 1) = omega arith in
     let past : 2 * i + 1 + 1 ≡ 2 * (i + 1) = omega arith in
     let was = c.loop-i.invariant in
+    let first_digit = c.digits_of-high.ensures.high in
+    let second_digit = c.digits_of-high.ensures.low in
     cc
 
 pub returns : goal.returns

@@ -31,7 +31,7 @@ loop-k-preserved g c = λ p.
     let set : ℕ = c.args.self.now.set in
     let k : ℕ = c.loop-k.k-counter in
     let before = c.loop-k.invariant p in
-    let held : has set k ≡ c.has_right.result = ap (has set) (sym c.from.ensures) ∙ sym c.has_right.ensures in
+    let held : has set k ≡ c.has_right.result = sym c.has_right.ensures in
     elim c.if-has_right.branch [
       | then-has_right+in_ok-write w ↦
           let wrote = w.in_ok-write.ensures.writes before.plain refl in

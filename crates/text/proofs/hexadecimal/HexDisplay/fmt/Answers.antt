@@ -22,13 +22,13 @@ loop-b-preserved g c = λ p.
     let before = c.loop-b.invariant p in
     let first = c.in_ok-write_char.ensures.writes before.plain refl in
     let second = c.in_ok-write_char-2.ensures.writes first.plain refl in
-    let high : encode c.digit_of.result ≡ digit (get_or bytes i 0 / 16) ∷ [] =
-    encode_ascii c.digit_of.result c.digit_of.ensures.ascii ∙ ap (λ d. d ∷ []) c.digit_of.ensures.value in
-    let low : encode c.digit_of-in-loop-b.result ≡ digit (get_or bytes i 0 % 16) ∷ [] =
-    encode_ascii c.digit_of-in-loop-b.result c.digit_of-in-loop-b.ensures.ascii ∙ ap (λ d. d ∷ []) c.digit_of-in-loop-b.ensures.value in
+    let high : encode c.digits_of-high.result.0 ≡ digit (get_or bytes i 0 / 16) ∷ [] =
+    encode_ascii c.digits_of-high.result.0 c.digits_of-high.ensures.ascii.0 ∙ ap (λ d. d ∷ []) c.digits_of-high.ensures.high in
+    let low : encode c.digits_of-high.result.1 ≡ digit (get_or bytes i 0 % 16) ∷ [] =
+    encode_ascii c.digits_of-high.result.1 c.digits_of-high.ensures.ascii.1 ∙ ap (λ d. d ∷ []) c.digits_of-high.ensures.low in
     let done : List ℕ = hex_text (take i bytes) in
-    let both : (done ++ encode c.digit_of.result) ++ encode c.digit_of-in-loop-b.result ≡ hex_text (take (i + 1) bytes) =
-    ap (λ t. (done ++ t) ++ encode c.digit_of-in-loop-b.result) high
+    let both : (done ++ encode c.digits_of-high.result.0) ++ encode c.digits_of-high.result.1 ≡ hex_text (take (i + 1) bytes) =
+    ap (λ t. (done ++ t) ++ encode c.digits_of-high.result.1) high
     ∙ ap (λ t. (done ++ (digit (get_or bytes i 0 / 16) ∷ [])) ++ t) low
     ∙ append_assoc done (digit (get_or bytes i 0 / 16) ∷ []) (digit (get_or bytes i 0 % 16) ∷ [])
     ∙ sym (hex_text-append (take i bytes) (get_or bytes i 0 ∷ []))
