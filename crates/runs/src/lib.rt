@@ -3,4 +3,5 @@
 
 mod starting;
 
+pub use admission::Gate;
 pub use starting::open;

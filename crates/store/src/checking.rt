@@ -1,9 +1,12 @@
 //! The checks that every request meets first: sizes, soundness, and the gate.
 ghost use Rattle.memory.specs.Held.{content};
-ghost use Rattle.std.specs.Prelude.{◌≡◌, IfOk};
+ghost use Rattle.refusal.specs.Chains.{unless};
+ghost use Rattle.std.specs.Prelude.{◌≡◌, ◌&&◌, IfOk, Ok};
 ghost use Rattle.store.specs.Held.{kept};
+ghost use Rattle.store.specs.Requests.{full_scratch};
 ghost use Rattle.store.specs.Served.{Entry, entered};
 ghost use Rattle.store.specs.Sizes.{sizes_agree};
+ghost use Rattle.store.specs.declared.refusals.StoreRefusal.TheVariants.{WrongSizes};
 
 use crate::keeping::Store;
 use crate::refusals::StoreRefusal;
@@ -11,6 +14,7 @@ use admission::{Asking, Target};
 use family::CommutingFamily;
 use holder::Capability;
 use memory::{Memory, is_sound};
+use secret::SETS;
 
 impl<F: CommutingFamily> Store<F> {
     /// Whether memory has the sizes that it had at the opening.
@@ -23,7 +27,19 @@ impl<F: CommutingFamily> Store<F> {
             && memory.area.len() == self.area
     }
 
+    /// Refused unless memory and scratch have the sizes that they must have.
+    pub(crate) fn check_sizes(&self, memory: &Memory, scratch: &[u64]) -> Result<(), StoreRefusal>
+        ensures { result ≡ unless (sizes_agree (kept F.modulus_of F.function_of self.now) (content memory.now) && full_scratch scratch.now) WrongSizes (Ok tt) }
+    {
+        if !self.sizes_agree(memory) || scratch.len() != SETS {
+            return Err(StoreRefusal::WrongSizes);
+        }
+        Ok(())
+    }
+
     /// The object of a capability that is admitted to a request, over sound memory.
+    ///
+    /// `pass` has the value alone, from which what the words say follows once, and not at every exit.
     pub(crate) fn enter(
         &self,
         memory: &Memory,

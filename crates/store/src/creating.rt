@@ -78,7 +78,7 @@ impl<F: CommutingFamily> Store<F> {
         self.files.give(memory.files, spot.place, new);
     }
 
-    /// Creates a file where sizes are right.
+    /// Creates a file where sizes are right, a fact of store and memory together that neither can carry alone.
     fn try_file(
         &mut self,
         memory: &mut Memory,
@@ -110,9 +110,7 @@ impl<F: CommutingFamily> Store<F> {
         ensures outcome { outcome (told_as granted result) (kept F.modulus_of F.function_of self.new) (content memory.new) scratch.new ≡ served (kept F.modulus_of F.function_of self.old) (content memory.old) capability (create_file bytes.now secret scratch.old) }
         ensures loan { SameLoan memory.old memory.new }
     {
-        if !self.sizes_agree(memory) || scratch.len() != SETS {
-            return Err(StoreRefusal::WrongSizes);
-        }
+        self.check_sizes(memory, scratch)?;
         // The guard is made here, as in the other calls: a function that gives it in an Option cannot say what a refusal leaves in the scratch.
         let guard = Scratch { numbers: scratch };
         let numbers = guard.numbers.as_mut_array().unwrap();

@@ -22,7 +22,7 @@ fn check_destructible(target: Target) -> Result<Target, StoreRefusal>
     ensures same { IfOk result (λ t. t ≡ target) }
 {
     match target {
-        Target::Itself => Err(StoreRefusal::Denied(Denial::WrongKind)),
+        Target::Itself => Err(Denial::WrongKind.into()),
         Target::Directory(_, record) if record.count != 0 => Err(StoreRefusal::RowsLeft),
         _ => Ok(target),
     }

@@ -13,7 +13,7 @@ use family::CommutingFamily;
 use holder::{Capability, Object};
 use secret::{SETS, Secret, is_fit};
 
-/// Refused unless the secret is fit.
+/// Refused unless the secret is fit. The numbers are room to work in, of no use afterwards, and so no part of a secret.
 pub(crate) fn check_fit<F: CommutingFamily>(
     family: &F,
     secret: Secret,

@@ -5,6 +5,8 @@ use crate::tables::Places;
 use admission::Gate;
 
 /// A store: its family, port and secret, what it knows of its two tables, and the size of its area.
+///
+/// In clauses a store is `kept F.modulus_of F.function_of self`, and no model: the value of a model wants a code, and functions have none.
 #[derive(Drop)]
 pub struct Store<F> {
     pub(crate) gate: Gate<F>,

@@ -1,6 +1,6 @@
 //! The store: files that never change and directories, kept in memory that its caller brings to each request.
 //!
-//! Each request takes memory and the capability presented as parameters of their own: the first is lent, the second given.
+//! Each request takes memory, the capability presented, a secret and a scratch as parameters of their own: memory and scratch are lent, the others given.
 #![tactic(auto)]
 
 mod checking;
@@ -18,6 +18,7 @@ mod revoking;
 mod serving;
 mod tables;
 
+pub use admission::Gate;
 pub use keeping::Store;
 pub use opening::Opened;
 pub use refusals::StoreRefusal;

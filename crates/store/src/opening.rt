@@ -31,10 +31,10 @@ fn sizes_lawful(memory: &Memory) -> bool
 {
     let files = memory.files.len();
     let directories = memory.directories.len();
-    if files < 1 || files > 256 || directories < 1 || directories > 64 {
-        return false;
-    }
-    memory.rows.len() == 16 * directories && memory.area.len() <= 1_048_576
+    (1..=256).contains(&files)
+        && (1..=64).contains(&directories)
+        && memory.rows.len() == 16 * directories
+        && memory.area.len() <= 1_048_576
 }
 
 impl<F: CommutingFamily + Drop> Store<F> {

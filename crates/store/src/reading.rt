@@ -30,7 +30,7 @@ impl<F: CommutingFamily> Store<F> {
         }
         match self.enter(memory, asking, capability)? {
             Target::File(_, record) => Ok(record),
-            _ => Err(StoreRefusal::Denied(Denial::WrongKind)),
+            _ => Err(Denial::WrongKind.into()),
         }
     }
 

@@ -3,6 +3,8 @@ use holder::Capability;
 use secret::Secret;
 
 /// What is asked, apart from the capability presented. Creating and revoking bring a scratch.
+///
+/// An enum and no closures: the requests are a closed set, and what each comes to is one definition over them.
 #[derive(Drop)]
 pub enum Request<'a> {
     /// A file from bytes and a secret.
@@ -29,7 +31,7 @@ pub enum Request<'a> {
     },
 }
 
-/// What is told. A file's bytes are told by where they lie in the area.
+/// What is told. A file's bytes are told by where they lie in the area, since an answer that borrows from memory cannot say what memory holds afterwards.
 #[derive(Clone, Copy)]
 pub enum Answer {
     /// The owner capability granted.

@@ -99,9 +99,7 @@ impl<F: CommutingFamily> Store<F> {
         ensures outcome { outcome (told_as granted result) (kept F.modulus_of F.function_of self.new) (content memory.new) scratch.new ≡ served (kept F.modulus_of F.function_of self.old) (content memory.old) capability (revoke secret scratch.old) }
         ensures loan { SameLoan memory.old memory.new }
     {
-        if !self.sizes_agree(memory) || scratch.len() != SETS {
-            return Err(StoreRefusal::WrongSizes);
-        }
+        self.check_sizes(memory, scratch)?;
         let guard = Scratch { numbers: scratch };
         let numbers = guard.numbers.as_mut_array().unwrap();
         self.try_revoke(memory, capability, secret, numbers)
