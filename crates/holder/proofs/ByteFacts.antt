@@ -1,5 +1,5 @@
 -- Numbers as bytes: there and back, at every width.
-use Rattle.std.proofs.Common.{◌≡◌, ℕ, zero, suc, ◌+◌, ◌-◌, ◌*◌, ◌/◌, ◌%◌, ◌^◌, ◌<◌, ◌≤◌, List, [], ◌∷◌, ◌++◌, length, get_or, drop, add-mul, mul_assoc, sym, refl, ap, ◌∙◌, subst, mod-lt, mod-eq_of_lt, arith, pow-add}
+use Rattle.std.proofs.Common.{◌≡◌, ℕ, zero, suc, ◌+◌, ◌*◌, ◌/◌, ◌%◌, ◌^◌, ◌<◌, ◌≤◌, List, [], ◌∷◌, ◌++◌, length, get_or, drop, add-mul, mul_assoc, sym, refl, ap, ◌∙◌, subst, mod-lt, mod-eq_of_lt, arith, pow-add}
 use native.Mathlib.Nat.{mod-one}
 use Rattle.std.proofs.Math.Nat.{pow-le-pow_right}
 use Rattle.std.proofs.lemmas.List.{length_push}

@@ -1,7 +1,7 @@
 -- Sixteen bytes, taken apart and put together again: each list is spelled out, and the rest is computed.
 use Rattle.std.proofs.Common.{◌≡◌, ℕ, List, ◌∷◌, ◌++◌, map, length, get_or, Ok, sym, ap, ◌∙◌}
 use Rattle.std.specs.List.{range_with_len}
-use Rattle.holder.specs.Layout.{written, parts, as_read}
+use Rattle.holder.specs.Layout.{written, as_read}
 use Rattle.holder.specs.declared.capability.Capability.{Capability}
 use Rattle.holder.proofs.Spelled.{spelled}
 

@@ -1,10 +1,10 @@
 -- Filling the numbers of all sets of rights, one right after the other.
-use Rattle.std.proofs.Common.{◌≡◌, ℕ, zero, suc, ◌+◌, ◌-◌, ◌*◌, ◌/◌, ◌%◌, ◌^◌, ◌<◌, Bool, true, false, cond, eqb, List, length, get_or, set, sym, ap, ◌∙◌, inl, inr, pow-suc, add-one, arith, get_or-set_same, pow_pos, pow-add}
+use Rattle.std.proofs.Common.{◌≡◌, ℕ, suc, ◌+◌, ◌-◌, ◌*◌, ◌/◌, ◌%◌, ◌^◌, ◌<◌, Bool, true, false, cond, eqb, List, length, get_or, set, sym, ap, ◌∙◌, inl, inr, pow-suc, add-one, arith, get_or-set_same, pow_pos, pow-add}
 use native.Mathlib.Nat.{div-eq_of_lt, add-mul-div_right}
 use lib.Arith.{digits_div}
 use Rattle.std.proofs.lemmas.Bool.{cases_lt}
 use Rattle.family.specs.Rights.{has}
-use Rattle.family.specs.Thin.{once, thin_below}
+use Rattle.family.specs.Thin.{thin_below}
 use Rattle.family.proofs.ThinFacts.{thin_none, thin_more, below_like}
 
 -- right k is not in a set of rights below k

@@ -1,12 +1,11 @@
 -- Reading and asking sizes, by the record of the file that is entered.
-use Rattle.std.proofs.Common.{◌≡◌, ℕ, Bool, true, false, cond, ◌&&◌, [], Ok, Err, Result, sym, refl, ap, ◌∙◌}
+use Rattle.std.proofs.Common.{◌≡◌, Bool, true, false, cond, ◌&&◌, [], Ok, Err, Result, sym, refl, ap, ◌∙◌}
 use Rattle.refusal.specs.Chains.{unless, and_then}
 use Rattle.holder.specs.declared.capability.Capability.{Capability}
 use Rattle.memory.specs.Soundness.{Content}
 use Rattle.memory.specs.declared.records.FileRecord.{FileRecord}
 use Rattle.admission.specs.declared.objects.Target.{Target}
 use Rattle.admission.specs.declared.objects.Target.TheVariants.{Itself, File, Directory}
-use Rattle.admission.specs.declared.requests.Asking.{Asking}
 use Rattle.admission.specs.declared.requests.Asking.TheVariants as asked
 use Rattle.store.specs.Changes.{Outcome, only_told, outcome, settled, told_as}
 use Rattle.store.specs.Kept.{Kept}
@@ -38,9 +37,3 @@ module _ (k : Kept) (m : Content) (c : Capability) where
 
   pub size_outcome : outcome (told_as (λ f. the_size f.length) (file_entered k m asked.Size c)) k m [] ≡ served k m c size
   size_outcome = outcome_of_file k m (λ f. the_size f.length) (sizes_agree k m) (entered k m asked.Size c)
-
--- where sizes agree, the file that is entered is the one asked for
-pub file_entered_lem : (k : Kept) (m : Content) (c : Capability) (asking : Asking) (p : ℕ) (r : FileRecord)
-    → sizes_agree k m ≡ true → entered k m asking c ≡ Ok (File p r) → Ok r ≡ file_entered k m asking c
-file_entered_lem k m c asking p r fits e =
-    sym (ap (λ b. unless b WrongSizes (and_then (entered k m asking c) file_in)) fits ∙ ap (λ t. and_then t file_in) e)

@@ -56,7 +56,7 @@ impl<'a, R: Record> Table<'a, R> {
 
     /// Writes a record at a place and goes on from there; says whether there is such a place.
     ///
-    /// By a truth value, here and below, since there is nothing to give back.
+    /// By a truth value, here and below, since there is nothing to give back; and each call says that the loan is the same, since it could lay another slice in its place.
     pub fn give(&mut self, place: usize, record: R) -> bool
         ensures answer { result ≡ nat_lt place (length self.old.records.now) }
         ensures records { self.new.records.now ≡ slice_set self.old.records.now place «record» }

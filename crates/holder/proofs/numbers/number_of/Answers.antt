@@ -1,5 +1,5 @@
 use Rattle.std.proofs.Common.{◌≡◌, ◌+◌, ◌*◌, ◌^◌, ◌<◌, sym, ap, ◌∙◌, take, slice_index_or, rules, arith, pow-add}
-use Rattle.std.proofs.lemmas.List.{take_more, take_all}
+use Rattle.std.proofs.lemmas.List.{take_more}
 use Rattle.std.proofs.lemmas.Nat.{mul-add-lt}
 use Rattle.holder.specs.Bytes.{number}
 use Rattle.holder.proofs.ByteFacts.{number_push, room}
