@@ -29,9 +29,7 @@ fn owner(object: u8, check: u8) -> Capability {
 
 /// Why the capability is denied, if it is: the store's secret is 2, its file's 3, its directory's 5; object 2 is free.
 fn denied(asking: Asking, capability: Capability) -> Result<Option<Denial>, Fail> {
-    let Ok(family) = Powers::new(101) else {
-        return Err(Fail::new("not made"));
-    };
+    let family = Powers::new(101)?;
     let gate = Gate {
         family,
         port: PORT,
@@ -61,10 +59,7 @@ fn denied(asking: Asking, capability: Capability) -> Result<Option<Denial>, Fail
         rows: &mut [],
         area: &mut [],
     };
-    match gate.admit(&memory, asking, capability) {
-        Ok(_) => Ok(None),
-        Err(e) => Ok(Some(e)),
-    }
+    Ok(gate.admit(&memory, asking, capability).err())
 }
 
 #[test]

@@ -40,13 +40,8 @@ impl CommutingFamily for Unmoving {
 
 /// The number, layer and place that a modulus is refused with, if it is.
 fn refused(n: u64) -> Option<(u8, Layer, u8)> {
-    match Powers::new(n) {
-        Ok(_) => None,
-        Err(e) => {
-            let r = Refusal::from(e);
-            Some((r.number, r.layer, r.place))
-        }
-    }
+    let r = Refusal::from(Powers::new(n).err()?);
+    Some((r.number, r.layer, r.place))
 }
 
 #[test]
@@ -71,9 +66,7 @@ fn lawful_moduli(rt: HostRuntime) {
 
 #[test]
 fn powers_of_seven(rt: HostRuntime) -> Result<(), Fail> {
-    let Ok(p) = Powers::new(2_147_483_647) else {
-        return Err(Fail::new("not made"));
-    };
+    let p = Powers::new(2_147_483_647)?;
     assert_eq!(rt; p.modulus(), 2_147_483_647);
     assert_eq!(rt; <Powers as CommutingFamily>::its_letter(), 'P');
     assert_eq!(rt; p.apply(0, 7), 16_807);
@@ -91,9 +84,7 @@ fn powers_of_seven(rt: HostRuntime) -> Result<(), Fail> {
 
 #[test]
 fn dickson_at_three(rt: HostRuntime) -> Result<(), Fail> {
-    let Ok(d) = Dickson::new(101) else {
-        return Err(Fail::new("not made"));
-    };
+    let d = Dickson::new(101)?;
     assert_eq!(rt; d.modulus(), 101);
     assert_eq!(rt; <Dickson as CommutingFamily>::its_letter(), 'D');
     assert_eq!(rt; d.apply(0, 3), 22);

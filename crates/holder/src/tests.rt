@@ -50,13 +50,9 @@ fn checks_fit_48_bits(rt: HostRuntime) {
 
 #[test]
 fn drops(rt: HostRuntime) -> Result<(), Fail> {
-    let Ok(powers) = Powers::new(2_147_483_647) else {
-        return Err(Fail::new("not made"));
-    };
+    let powers = Powers::new(2_147_483_647)?;
     let owner = directory(255, [0, 0, 0x41, 0xa7]);
-    let Ok(less) = owner.drop_right(&powers, 0) else {
-        return Err(Fail::new("refused"));
-    };
+    let less = owner.drop_right(&powers, 0)?;
     assert_eq!(rt; less, directory(254, [0x44, 0x31, 0xb7, 0x82]));
     assert_eq!(rt; less.drop_right(&powers, 0), Ok(less), "dropped before");
     assert_eq!(rt;
@@ -73,9 +69,7 @@ fn drops(rt: HostRuntime) -> Result<(), Fail> {
 
 #[test]
 fn checks_that_are_too_large(rt: HostRuntime) -> Result<(), Fail> {
-    let Ok(powers) = Powers::new(2_147_483_647) else {
-        return Err(Fail::new("not made"));
-    };
+    let powers = Powers::new(2_147_483_647)?;
     let wide = directory(0, [0x7f, 0xff, 0xff, 0xff]);
     assert_eq!(rt;
         wide.drop_right(&powers, 3),
@@ -97,9 +91,7 @@ fn checks_that_are_too_large(rt: HostRuntime) -> Result<(), Fail> {
 
 #[test]
 fn thinning(rt: HostRuntime) -> Result<(), Fail> {
-    let Ok(powers) = Powers::new(2_147_483_647) else {
-        return Err(Fail::new("not made"));
-    };
+    let powers = Powers::new(2_147_483_647)?;
     let owner = directory(255, [0, 0, 0x41, 0xa7]);
     assert_eq!(rt;
         owner.thin_to(&powers, Mask { bits: 0xfe }),

@@ -53,9 +53,7 @@ fn sound(
     first: Row,
     second: Row,
 ) -> Result<bool, Fail> {
-    let Ok(powers) = Powers::new(101) else {
-        return Err(Fail::new("not made"));
-    };
+    let powers = Powers::new(101)?;
     let mut files = files;
     let mut directories = [directory];
     let mut rows = [row(b'x', 1); 16];

@@ -22,17 +22,12 @@ fn owner(s: u64) -> Option<Capability> {
 
 /// Whether the secret of s accepts the number v as the check for these rights.
 fn accepts<F: CommutingFamily>(family: &F, s: u64, bits: u8, v: u64) -> bool {
-    match Check::new(v) {
-        Some(check) => Secret::new(s).accepts(family, Rights { bits }, check),
-        None => false,
-    }
+    Check::new(v).is_some_and(|check| Secret::new(s).accepts(family, Rights { bits }, check))
 }
 
 #[test]
 fn fit_in_powers(rt: HostRuntime) -> Result<(), Fail> {
-    let Ok(powers) = Powers::new(3413) else {
-        return Err(Fail::new("not made"));
-    };
+    let powers = Powers::new(3413)?;
     assert_eq!(rt; fitness(&powers, 2), Some(true));
     assert_eq!(rt; fitness(&powers, 0), Some(false), "zero stays zero");
     assert_eq!(rt; fitness(&powers, 1), Some(false), "one stays one");
@@ -46,9 +41,7 @@ fn fit_in_powers(rt: HostRuntime) -> Result<(), Fail> {
 
 #[test]
 fn fit_in_dickson(rt: HostRuntime) -> Result<(), Fail> {
-    let Ok(dickson) = Dickson::new(3631) else {
-        return Err(Fail::new("not made"));
-    };
+    let dickson = Dickson::new(3631)?;
     assert_eq!(rt; fitness(&dickson, 4), Some(true));
     assert_eq!(rt; fitness(&dickson, 2), Some(false), "two stays two");
     Ok(())
@@ -56,9 +49,7 @@ fn fit_in_dickson(rt: HostRuntime) -> Result<(), Fail> {
 
 #[test]
 fn scratch_is_wiped(rt: HostRuntime) -> Result<(), Fail> {
-    let Ok(powers) = Powers::new(3413) else {
-        return Err(Fail::new("not made"));
-    };
+    let powers = Powers::new(3413)?;
     for s in [2, 1, 3413] {
         let mut scratch = [7; 256];
         assert!(rt; is_fit(&powers, Secret::new(s), &mut scratch).is_some());
@@ -72,9 +63,7 @@ fn scratch_is_wiped(rt: HostRuntime) -> Result<(), Fail> {
 
 #[test]
 fn owners(rt: HostRuntime) -> Result<(), Fail> {
-    let Some(most) = owner(281_474_976_710_655) else {
-        return Err(Fail::new("48 bits fit"));
-    };
+    let most = owner(281_474_976_710_655).ok_or("48 bits fit")?;
     assert_eq!(rt; most.rights.bits, 255);
     assert_eq!(rt; most.check.number(), 281_474_976_710_655);
     assert!(rt; owner(281_474_976_710_656).is_none());
@@ -85,15 +74,9 @@ fn owners(rt: HostRuntime) -> Result<(), Fail> {
 
 #[test]
 fn acceptance(rt: HostRuntime) -> Result<(), Fail> {
-    let Ok(powers) = Powers::new(3413) else {
-        return Err(Fail::new("not made"));
-    };
-    let Some(whole) = owner(2) else {
-        return Err(Fail::new("no owner"));
-    };
-    let Ok(less) = whole.drop_right(&powers, 0) else {
-        return Err(Fail::new("refused"));
-    };
+    let powers = Powers::new(3413)?;
+    let whole = owner(2).ok_or("no owner")?;
+    let less = whole.drop_right(&powers, 0)?;
     let secret = Secret::new(2);
     assert!(rt; secret.accepts(&powers, whole.rights, whole.check));
     assert!(rt; secret.accepts(&powers, less.rights, less.check));
@@ -110,9 +93,7 @@ fn acceptance(rt: HostRuntime) -> Result<(), Fail> {
 
 #[test]
 fn checks_at_the_modulus(rt: HostRuntime) -> Result<(), Fail> {
-    let Ok(powers) = Powers::new(3413) else {
-        return Err(Fail::new("not made"));
-    };
+    let powers = Powers::new(3413)?;
     assert!(rt; accepts(&powers, 2, 255, 2));
     assert!(rt; !accepts(&powers, 2, 255, 3415), "the same number modulo n");
     assert!(rt;
