@@ -29,7 +29,7 @@ impl Asking {
         }
     }
 
-    /// The number of the right that is asked for.
+    /// The number of the right that is asked for; a number and no enum, as in the families.
     pub fn right(self) -> u64
         ensures value { result ≡ right_asked self }
         ensures one { result < 8 }

@@ -5,7 +5,7 @@ ghost use Rattle.std.specs.Prelude.{◌≡◌, IfOk, Ok};
 use crate::capability::{Capability, Check, Object, Port, Rights};
 use crate::refusals::HolderRefusal;
 
-/// The parts, each from its place.
+/// The parts, each from its place, and by places, as the definition has them.
 impl From<[u8; 16]> for Capability {
     ghost from_gives = { λ bytes c. (c ≡ parts bytes) × (written c ≡ bytes) };
 

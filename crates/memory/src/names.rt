@@ -16,7 +16,7 @@ pub fn is_lawful_name(bytes: &[u8]) -> bool
     (1..=24).contains(&bytes.len()) && bytes.iter().all(|byte| is_name_byte(*byte))
 }
 
-/// Whether two names, or any bytes, are the same.
+/// Whether two names, or any bytes, are the same: the one function by which names are compared.
 pub fn are_same_bytes(a: &[u8], b: &[u8]) -> bool
     ensures { result ≡ same_bytes a.now b.now }
 {
@@ -37,7 +37,7 @@ impl<'a> Name<'a> {
         is_lawful_name(bytes).then_some(Name { bytes })
     }
 
-    /// Whether two names are the same; it is a rule of the store that names are compared by one function, and not by a derived equality.
+    /// Whether two names are the same: by that function, and not by a derived equality.
     pub fn same(self, other: Name) -> bool
         ensures { result ≡ same_bytes self.entry.bytes.now other.entry.bytes.now }
     {

@@ -68,7 +68,7 @@ fn passes_all<F: CommutingFamily>(family: &F, port: Port, memory: &Memory) -> bo
     secrets_below(family, memory) && files_sound(memory) && rows_all_sound(family, port, memory)
 }
 
-/// Whether the memory is sound for this family and port.
+/// Whether the memory is sound for this family and port, which are given, while the memory is lent.
 pub fn is_sound<F: CommutingFamily>(family: &F, port: Port, memory: &Memory) -> bool
     ensures value { result ≡ sound (F.modulus_of family.now) port.bytes (content memory.now) }
     ensures words { Decides result (Sound (F.modulus_of family.now) port.bytes (content memory.now)) }

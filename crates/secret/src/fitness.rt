@@ -15,6 +15,7 @@ pub const SETS: usize = 256;
 fn all_differ(numbers: &[u64; SETS]) -> bool
     ensures { MatchBool result (AllNew numbers.now 256) (AllNew numbers.now 256 → ⊥) }
 {
+    // A loop, since the check finds this one alone, and not the same by `all`.
     for (j, number) in numbers.iter().enumerate() {
         if numbers[..j].contains(number) {
             return false;
@@ -47,6 +48,7 @@ fn judged<F: CommutingFamily>(family: &F, s: u64, scratch: &mut [u64]) -> Option
     if scratch.len() != SETS {
         return None;
     }
+    // Made here: a function that gives the guard in an Option cannot say what the scratch holds where there is none.
     let guard = Scratch { numbers: scratch };
     Some(verdict(family, s, guard.numbers.as_mut_array()?))
 }

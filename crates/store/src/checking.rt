@@ -17,21 +17,26 @@ use memory::{Memory, is_sound};
 use secret::SETS;
 
 impl<F: CommutingFamily> Store<F> {
-    /// Whether memory has the sizes that it had at the opening.
-    pub(crate) fn sizes_agree(&self, memory: &Memory) -> bool
-        ensures { result ≡ sizes_agree (kept F.modulus_of F.function_of self.now) (content memory.now) }
+    /// Refused unless memory has the sizes that it had at the opening.
+    pub(crate) fn check_memory(&self, memory: &Memory) -> Result<(), StoreRefusal>
+        ensures { result ≡ unless (sizes_agree (kept F.modulus_of F.function_of self.now) (content memory.now)) WrongSizes (Ok tt) }
     {
-        memory.files.len() == self.files.size
+        let agree = memory.files.len() == self.files.size
             && memory.directories.len() == self.directories.size
             && memory.rows.len() == 16 * self.directories.size
-            && memory.area.len() == self.area
+            && memory.area.len() == self.area;
+        if !agree {
+            return Err(StoreRefusal::WrongSizes);
+        }
+        Ok(())
     }
 
     /// Refused unless memory and scratch have the sizes that they must have.
     pub(crate) fn check_sizes(&self, memory: &Memory, scratch: &[u64]) -> Result<(), StoreRefusal>
         ensures { result ≡ unless (sizes_agree (kept F.modulus_of F.function_of self.now) (content memory.now) && full_scratch scratch.now) WrongSizes (Ok tt) }
     {
-        if !self.sizes_agree(memory) || scratch.len() != SETS {
+        self.check_memory(memory)?;
+        if scratch.len() != SETS {
             return Err(StoreRefusal::WrongSizes);
         }
         Ok(())

@@ -9,7 +9,7 @@ ghost use Rattle.store.specs.Requests.{create_file, granted};
 ghost use Rattle.store.specs.Served.{attempted, served};
 ghost use Rattle.store.specs.Sizes.{sizes_agree};
 
-use crate::granting::check_fit;
+use crate::granting::{check_fit, file_number};
 use crate::keeping::Store;
 use crate::refusals::StoreRefusal;
 use admission::Asking;
@@ -25,7 +25,7 @@ pub struct Spot {
     pub start: u64,
 }
 
-/// Copies the bytes to the front of a part of the area.
+/// Copies the bytes to the front of a part of the area, which is all that is lent to whoever copies.
 fn copy_to_front(part: &mut [u8], bytes: &[u8])
     requires { length bytes.now ≤ length part.old }
     ensures { part.new ≡ bytes.now ++ drop (length bytes.now) part.old }
@@ -93,7 +93,7 @@ impl<F: CommutingFamily> Store<F> {
     {
         let _ = self.enter(memory, Asking::CreateFile, capability)?;
         let spot = self.spot(memory, bytes.len() as u64, secret, numbers)?;
-        let grant = self.grant(1 + spot.place as u64, secret);
+        let grant = self.grant(file_number(spot.place), secret);
         self.write_file(memory, spot, bytes, secret);
         Ok(grant)
     }
@@ -111,7 +111,8 @@ impl<F: CommutingFamily> Store<F> {
         ensures loan { SameLoan memory.old memory.new }
     {
         self.check_sizes(memory, scratch)?;
-        // The guard is made here, as in the other calls: a function that gives it in an Option cannot say what a refusal leaves in the scratch.
+        // The guard is made here, as in every call that has one: a function that gives it in an Option cannot say what a refusal leaves in the scratch,
+        // and what a closure changes through what it borrows is not known after it.
         let guard = Scratch { numbers: scratch };
         let numbers = guard.numbers.as_mut_array().unwrap();
         self.try_file(memory, capability, bytes, secret, numbers)

@@ -70,9 +70,7 @@ impl<F: CommutingFamily> Store<F> {
         ensures outcome { outcome (told_as (λ _. done) result) (kept F.modulus_of F.function_of self.now) (content memory.new) [] ≡ served (kept F.modulus_of F.function_of self.now) (content memory.old) capability destroy }
         ensures loan { SameLoan memory.old memory.new }
     {
-        if !self.sizes_agree(memory) {
-            return Err(StoreRefusal::WrongSizes);
-        }
+        self.check_memory(memory)?;
         self.try_destroy(memory, capability)
     }
 }

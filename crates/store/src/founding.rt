@@ -46,7 +46,7 @@ impl<F: CommutingFamily> Store<F> {
         self.directories.give(memory.directories, place, new);
     }
 
-    /// Creates a directory where sizes are right.
+    /// Creates a directory where sizes are right, a fact of store and memory together.
     fn try_directory(
         &mut self,
         memory: &mut Memory,
@@ -60,8 +60,7 @@ impl<F: CommutingFamily> Store<F> {
     {
         let _ = self.enter(memory, Asking::CreateDirectory, capability)?;
         let place = self.free_directory(memory, secret, numbers)?;
-        let number = 1 + self.files.size as u64 + place as u64;
-        let grant = self.grant(number, secret);
+        let grant = self.grant(self.directory_number(place), secret);
         self.write_directory(memory, place, secret);
         Ok(grant)
     }
@@ -78,6 +77,7 @@ impl<F: CommutingFamily> Store<F> {
         ensures loan { SameLoan memory.old memory.new }
     {
         self.check_sizes(memory, scratch)?;
+        // Made here and not by a function, as in every call that has a guard.
         let guard = Scratch { numbers: scratch };
         let numbers = guard.numbers.as_mut_array().unwrap();
         self.try_directory(memory, capability, secret, numbers)

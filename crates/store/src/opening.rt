@@ -93,6 +93,7 @@ impl<F: CommutingFamily + Drop> Store<F> {
         if !sizes_lawful(memory) || scratch.len() != SETS {
             return Err(StoreRefusal::WrongSizes);
         }
+        // Made here and not by a function, as in every call that has a guard.
         let guard = Scratch { numbers: scratch };
         Store::try_open(gate, memory, guard.numbers.as_mut_array().unwrap())
     }

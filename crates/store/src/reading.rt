@@ -25,9 +25,7 @@ impl<F: CommutingFamily> Store<F> {
         ensures value { result ≡ file_entered (kept F.modulus_of F.function_of self.now) (content memory.now) asking capability }
         ensures within { IfOk result (λ f. f.start + f.length ≤ length memory.now.area.now) }
     {
-        if !self.sizes_agree(memory) {
-            return Err(StoreRefusal::WrongSizes);
-        }
+        self.check_memory(memory)?;
         match self.enter(memory, asking, capability)? {
             Target::File(_, record) => Ok(record),
             _ => Err(Denial::WrongKind.into()),

@@ -12,7 +12,7 @@ ghost use Rattle.store.specs.Served.{attempted, served};
 ghost use Rattle.store.specs.Sizes.{sizes_agree};
 ghost use Rattle.store.specs.declared.refusals.StoreRefusal.TheVariants.{UnfitSecret};
 
-use crate::granting::check_fit;
+use crate::granting::{check_fit, file_number};
 use crate::keeping::Store;
 use crate::refusals::StoreRefusal;
 use admission::{Asking, Target};
@@ -45,8 +45,8 @@ impl<F: CommutingFamily> Store<F> {
     {
         match target {
             Target::Itself => 0,
-            Target::File(place, _) => 1 + place as u64,
-            Target::Directory(place, _) => 1 + self.files.size as u64 + place as u64,
+            Target::File(place, _) => file_number(place),
+            Target::Directory(place, _) => self.directory_number(place),
         }
     }
 
@@ -69,7 +69,7 @@ impl<F: CommutingFamily> Store<F> {
         }
     }
 
-    /// Revokes where sizes are right.
+    /// Revokes where sizes are right, a fact of store and memory together.
     fn try_revoke(
         &mut self,
         memory: &mut Memory,
@@ -100,6 +100,7 @@ impl<F: CommutingFamily> Store<F> {
         ensures loan { SameLoan memory.old memory.new }
     {
         self.check_sizes(memory, scratch)?;
+        // Made here and not by a function, as in every call that has a guard.
         let guard = Scratch { numbers: scratch };
         let numbers = guard.numbers.as_mut_array().unwrap();
         self.try_revoke(memory, capability, secret, numbers)
