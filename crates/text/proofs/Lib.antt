@@ -1,4 +1,5 @@
 pub mod Chosen
 pub mod Decimals
+pub mod Decoded
+pub mod Encoded
 pub mod Pairs
-pub mod Room
