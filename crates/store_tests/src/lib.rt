@@ -1,0 +1,7 @@
+//! Examples of a store, opened by the call that carries the law of runs.
+#![tactic(auto)]
+
+#[cfg(test)]
+mod bench;
+#[cfg(test)]
+mod requests;
