@@ -24,7 +24,7 @@ pub struct Bench {
 }
 
 /// A file that lies nowhere in the area.
-pub fn old_file() -> FileRecord {
+pub(crate) fn old_file() -> FileRecord {
     FileRecord {
         live: true,
         secret: Secret::new(9),
@@ -34,7 +34,7 @@ pub fn old_file() -> FileRecord {
 }
 
 /// A directory with more rows than there can be.
-pub fn old_directory() -> DirectoryRecord {
+pub(crate) fn old_directory() -> DirectoryRecord {
     DirectoryRecord {
         live: true,
         secret: Secret::new(9),
@@ -43,7 +43,7 @@ pub fn old_directory() -> DirectoryRecord {
 }
 
 /// A row of another store, with a name of three bytes.
-pub fn old_row() -> Row {
+pub(crate) fn old_row() -> Row {
     let mask = Mask { bits: 9 };
     Row {
         length: 3,
@@ -64,7 +64,7 @@ pub fn old_row() -> Row {
 
 impl Bench {
     /// Memory with something in it everywhere.
-    pub fn new() -> Bench {
+    pub(crate) fn new() -> Bench {
         Bench {
             files: [old_file(); 3],
             directories: [old_directory(); 2],
@@ -75,7 +75,7 @@ impl Bench {
 }
 
 /// A store of powers modulo 2,147,483,647, with secret 7.
-pub fn gate() -> Result<Gate<Powers>, FamilyRefusal> {
+pub(crate) fn gate() -> Result<Gate<Powers>, FamilyRefusal> {
     Ok(Gate {
         family: Powers::new(2_147_483_647)?,
         port: PORT,
