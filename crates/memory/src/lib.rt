@@ -17,7 +17,7 @@ pub use names::{Name, are_same_bytes, is_lawful_name};
 pub use placement::place;
 pub use records::{DirectoryRecord, FileRecord, Masks, Row};
 pub use soundness::is_sound;
-pub use wiping::wipe;
+pub use wiping::{wipe, zero_directory, zero_file, zero_row};
 
 #[cfg(test)]
 mod tests;

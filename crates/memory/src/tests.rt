@@ -146,6 +146,48 @@ fn rows_of_directories(rt: HostRuntime) -> Result<(), Fail> {
         !sound(files, directory(true, 1, 2), a, row(32, 1))?,
         "a space"
     );
+    let without_name = Row { length: 0, ..a };
+    assert!(rt;
+        !sound(files, directory(true, 1, 1), without_name, b)?,
+        "no name"
+    );
+    let of_25_bytes = Row {
+        length: 25,
+        name: [b'a'; 24],
+        ..a
+    };
+    assert!(rt;
+        !sound(files, directory(true, 1, 1), of_25_bytes, b)?,
+        "more bytes than there are"
+    );
+    let port = Port { bytes: [9; 6] };
+    let capability = Capability {
+        port,
+        ..a.capability
+    };
+    assert!(rt;
+        !sound(files, directory(true, 1, 1), Row { capability, ..a }, b)?,
+        "another store's"
+    );
+    Ok(())
+}
+
+#[test]
+fn secrets_of_files(rt: HostRuntime) -> Result<(), Fail> {
+    let none = directory(false, 0, 0);
+    let (a, b) = (row(b'a', 1), row(b'b', 1));
+    let secret = Secret::new(101);
+    let other = file(false, 0, 0);
+    let live = FileRecord {
+        secret,
+        ..file(true, 0, 5)
+    };
+    assert!(rt; !sound([live, other], none, a, b)?, "secret at the modulus");
+    let free = FileRecord {
+        live: false,
+        ..live
+    };
+    assert!(rt; sound([free, other], none, a, b)?, "of a free record");
     Ok(())
 }
 

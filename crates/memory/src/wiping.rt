@@ -1,4 +1,4 @@
-//! Memory made all zeros, as a store is opened over it.
+//! Records, rows and memory of zeros: what a caller begins with, and what an opening leaves.
 ghost use Rattle.memory.specs.Held.{content};
 ghost use Rattle.memory.specs.Loans.{SameLoan};
 ghost use Rattle.memory.specs.Records.{zero_directory, zero_file};
@@ -11,7 +11,7 @@ use holder::{Capability, Check, Mask, Object, Port, Rights};
 use secret::Secret;
 
 /// A file record of zeros.
-pub(crate) fn zero_file() -> FileRecord
+pub fn zero_file() -> FileRecord
     ensures { result ≡ zero_file }
 {
     FileRecord {
@@ -23,7 +23,7 @@ pub(crate) fn zero_file() -> FileRecord
 }
 
 /// A directory record of zeros.
-pub(crate) fn zero_directory() -> DirectoryRecord
+pub fn zero_directory() -> DirectoryRecord
     ensures { result ≡ zero_directory }
 {
     DirectoryRecord {
@@ -34,7 +34,7 @@ pub(crate) fn zero_directory() -> DirectoryRecord
 }
 
 /// A row of zeros.
-fn zero_row() -> Row
+pub fn zero_row() -> Row
     ensures { result ≡ zero_row }
 {
     Row {
