@@ -1,22 +1,18 @@
-//! Memory to lend, and what a store over it is known by.
-ghost use Rattle.std.specs.Prelude.{◌≤◌, refl};
-ghost use Rattle.std.proofs.Common.{arith};
-
+//! Memory to lend, and a store over it.
 use family::{CommutingFamily, FamilyRefusal, Powers};
 use holder::{Capability, Check, Mask, Object, Port, Rights};
-use memory::{DirectoryRecord, FileRecord, Masks, Row};
-use runs::Gate;
-use secret::Secret;
+use memory::{DirectoryRecord, FileRecord, Masks, Memory, Row};
+use runs::{Gate, open};
+use secret::{SETS, Secret};
+use store::{Opened, Store, StoreRefusal};
 
 pub const PORT: Port = Port {
     bytes: [0x50, 0x55, 0x4d, 0x50, 0x30, 0x31],
 };
 
 /// Three file records, two directory records, their rows, and sixteen bytes.
-///
-/// Each test lends them part by part: a method that lends four parts of what lies behind `&mut self` is not covered by the borrow checker.
-#[derive(Drop)]
-pub struct Bench {
+#[derive(Clone, Copy)]
+pub struct Room {
     pub files: [FileRecord; 3],
     pub directories: [DirectoryRecord; 2],
     pub rows: [Row; 32],
@@ -62,15 +58,95 @@ pub(crate) fn old_row() -> Row {
     }
 }
 
-impl Bench {
+impl Room {
     /// Memory with something in it everywhere.
-    pub(crate) fn new() -> Bench {
-        Bench {
+    pub(crate) fn new() -> Room {
+        Room {
             files: [old_file(); 3],
             directories: [old_directory(); 2],
             rows: [old_row(); 32],
             area: [9; 16],
         }
+    }
+}
+
+/// Lends a room to a store: a method cannot, since one that lends four parts of what lies behind `&mut self` is not covered by the borrow checker.
+macro_rules! lend {
+    ($room:ident) => {
+        Memory {
+            files: &mut $room.files,
+            directories: &mut $room.directories,
+            rows: &mut $room.rows,
+            area: &mut $room.area,
+        }
+    };
+}
+
+pub(crate) use lend;
+
+/// A store with its owner capability. Each of its calls brings a scratch of its own and promises nothing, so that a test of many calls is quick to prove.
+#[derive(Drop)]
+pub struct Bench<F> {
+    pub store: Store<F>,
+    pub owner: Capability,
+}
+
+impl<F: CommutingFamily + Drop> Bench<F> {
+    /// A store just opened over this memory.
+    pub(crate) fn new(gate: Gate<F>, memory: &mut Memory) -> Result<Bench<F>, StoreRefusal> {
+        let Opened { store, owner } = open(gate, memory, &mut [9; SETS])?;
+        Ok(Bench { store, owner })
+    }
+
+    pub(crate) fn file(
+        &mut self,
+        memory: &mut Memory,
+        bytes: &[u8],
+        secret: u64,
+    ) -> Result<Capability, StoreRefusal> {
+        let secret = Secret::new(secret);
+        self.store
+            .create_file(memory, self.owner, bytes, secret, &mut [9; SETS])
+    }
+
+    pub(crate) fn directory(
+        &mut self,
+        memory: &mut Memory,
+        secret: u64,
+    ) -> Result<Capability, StoreRefusal> {
+        let secret = Secret::new(secret);
+        self.store
+            .create_directory(memory, self.owner, secret, &mut [9; SETS])
+    }
+
+    pub(crate) fn revoke(
+        &mut self,
+        memory: &mut Memory,
+        object: Capability,
+        secret: u64,
+    ) -> Result<Capability, StoreRefusal> {
+        let secret = Secret::new(secret);
+        self.store.revoke(memory, object, secret, &mut [9; SETS])
+    }
+
+    pub(crate) fn destroy(
+        &self,
+        memory: &mut Memory,
+        object: Capability,
+    ) -> Result<(), StoreRefusal> {
+        self.store.destroy(memory, object)
+    }
+
+    pub(crate) fn read<'a>(
+        &self,
+        memory: &'a Memory,
+        file: Capability,
+    ) -> Result<&'a [u8], StoreRefusal> {
+        self.store.read(memory, file)
+    }
+
+    pub(crate) fn size(&self, memory: &Memory, file: Capability) -> Result<u64, StoreRefusal> {
+        self.store.size(memory, file)
     }
 }
 
@@ -81,28 +157,4 @@ pub(crate) fn gate() -> Result<Gate<Powers>, FamilyRefusal> {
         port: PORT,
         secret: Secret::new(7),
     })
-}
-
-/// The identity over 1000: lawful, though no secret is fit in it.
-#[derive(Clone, Copy)]
-pub struct Unmoving;
-
-impl CommutingFamily for Unmoving {
-    const LETTER: char = 'I';
-
-    ghost LETTER = { 73 };
-
-    ghost modulus_of = { λ _. 1000 };
-
-    ghost function_of = { λ _ k v. v };
-
-    ghost laws = { λ _. record { least = omega arith; most = omega arith; within = λ k v p h. h; commutes = λ j k v p q h. refl } };
-
-    fn modulus(&self) -> u64 {
-        1000
-    }
-
-    fn value(&self, _k: u64, v: u64) -> u64 {
-        v
-    }
 }

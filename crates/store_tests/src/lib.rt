@@ -4,4 +4,10 @@
 #[cfg(test)]
 mod bench;
 #[cfg(test)]
+mod families;
+#[cfg(test)]
 mod requests;
+#[cfg(test)]
+mod sizes;
+#[cfg(test)]
+mod unsoundness;

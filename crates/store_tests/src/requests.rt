@@ -1,12 +1,14 @@
-//! Single requests, one after the other.
-use crate::bench::{Bench, PORT, Unmoving, gate, old_file};
+//! Requests one after the other.
+use crate::bench::{Bench, Room, gate, lend};
 use admission::Denial;
 use holder::{Capability, Check};
 use memory::Memory;
-use runs::{Gate, open};
-use secret::{SETS, Secret};
 use std::test::Fail;
-use store::{Opened, StoreRefusal};
+use store::StoreRefusal;
+
+const NO_SUCH_OBJECT: StoreRefusal = StoreRefusal::Denied(Denial::NoSuchObject);
+
+const WRONG_CHECK: StoreRefusal = StoreRefusal::Denied(Denial::WrongCheck);
 
 /// Where the record at a place says that its file begins.
 fn start(memory: &Memory, place: usize) -> Option<u64> {
@@ -15,192 +17,119 @@ fn start(memory: &Memory, place: usize) -> Option<u64> {
 
 #[test]
 fn a_run_is_filed_read_and_withdrawn(rt: HostRuntime) -> Result<(), Fail> {
-    let mut bench = Bench::new();
-    let mut memory = Memory {
-        files: &mut bench.files,
-        directories: &mut bench.directories,
-        rows: &mut bench.rows,
-        area: &mut bench.area,
-    };
-    let mut scratch = [9; SETS];
-    let Opened { mut store, owner } = open(gate()?, &mut memory, &mut scratch)?;
-    assert_eq!(rt; scratch, [0; SETS]);
-    let run = store.create_file(&mut memory, owner, b"abc", Secret::new(11), &mut scratch)?;
+    let mut room = Room::new();
+    let mut memory = lend!(room);
+    let mut bench = Bench::new(gate()?, &mut memory)?;
+    let run = bench.file(&mut memory, b"abc", 11)?;
     assert_eq!(rt; run.object.number(), 1);
-    assert_eq!(rt; store.size(&memory, run), Ok(3));
-    assert_eq!(rt; store.read(&memory, run)?, b"abc".as_slice());
-    let again = store.revoke(&mut memory, run, Secret::new(13), &mut scratch)?;
+    assert_eq!(rt; bench.size(&memory, run), Ok(3));
+    assert_eq!(rt; bench.read(&memory, run)?, b"abc".as_slice());
+    let again = bench.revoke(&mut memory, run, 13)?;
+    assert_eq!(rt; bench.size(&memory, run), Err(WRONG_CHECK), "withdrawn");
+    assert_eq!(rt; bench.size(&memory, again), Ok(3));
+    Ok(())
+}
+
+#[test]
+fn objects_that_are_gone(rt: HostRuntime) -> Result<(), Fail> {
+    let mut room = Room::new();
+    let mut memory = lend!(room);
+    let mut bench = Bench::new(gate()?, &mut memory)?;
+    let run = bench.file(&mut memory, b"abc", 11)?;
+    let other = bench.file(&mut memory, b"d", 13)?;
+    assert_eq!(rt; bench.destroy(&mut memory, run), Ok(()));
+    assert_eq!(rt; memory.area.get(..4), Some(b"\0\0\0d".as_slice()));
+    assert_eq!(rt; bench.size(&memory, run), Err(NO_SUCH_OBJECT));
+    assert_eq!(rt; bench.destroy(&mut memory, run), Err(NO_SUCH_OBJECT));
+    let _ = bench.file(&mut memory, b"", 17)?;
+    let anew = bench.file(&mut memory, b"e", 19)?;
+    assert_eq!(rt; anew.object.number(), 1);
     assert_eq!(rt;
-        store.size(&memory, run),
-        Err(StoreRefusal::Denied(Denial::WrongCheck)),
-        "withdrawn"
+        bench.size(&memory, run),
+        Err(WRONG_CHECK),
+        "another file has the number"
     );
-    assert_eq!(rt; store.size(&memory, again), Ok(3));
-    assert_eq!(rt; store.destroy(&mut memory, again), Ok(()));
-    assert_eq!(rt;
-        store.destroy(&mut memory, again),
-        Err(StoreRefusal::Denied(Denial::NoSuchObject)),
-        "not twice"
-    );
+    assert_eq!(rt; bench.size(&memory, other), Ok(1));
     Ok(())
 }
 
 #[test]
 fn places_are_claimed_going_round(rt: HostRuntime) -> Result<(), Fail> {
-    let mut bench = Bench::new();
-    let mut memory = Memory {
-        files: &mut bench.files,
-        directories: &mut bench.directories,
-        rows: &mut bench.rows,
-        area: &mut bench.area,
-    };
-    let mut scratch = [9; SETS];
-    let Opened { mut store, owner } = open(gate()?, &mut memory, &mut scratch)?;
-    let first = store.create_file(&mut memory, owner, b"a", Secret::new(11), &mut scratch)?;
-    let second = store.create_file(&mut memory, owner, b"b", Secret::new(13), &mut scratch)?;
-    store.destroy(&mut memory, first)?;
-    let third = store.create_file(&mut memory, owner, b"c", Secret::new(17), &mut scratch)?;
+    let mut room = Room::new();
+    let mut memory = lend!(room);
+    let mut bench = Bench::new(gate()?, &mut memory)?;
+    let first = bench.file(&mut memory, b"a", 11)?;
+    let second = bench.file(&mut memory, b"b", 13)?;
+    bench.destroy(&mut memory, first)?;
+    let third = bench.file(&mut memory, b"c", 17)?;
     assert_eq!(rt;
         third.object.number(),
         3,
         "after the last given, though place 0 is free"
     );
-    store.destroy(&mut memory, second)?;
-    let fourth = store.create_file(&mut memory, owner, b"d", Secret::new(19), &mut scratch)?;
+    bench.destroy(&mut memory, second)?;
+    let fourth = bench.file(&mut memory, b"d", 19)?;
     assert_eq!(rt; fourth.object.number(), 1, "going round");
-    assert_eq!(rt;
-        store.size(&memory, first),
-        Err(StoreRefusal::Denied(Denial::WrongCheck)),
-        "another file has the number"
-    );
-    let fifth = store.create_file(&mut memory, owner, b"e", Secret::new(23), &mut scratch)?;
+    let fifth = bench.file(&mut memory, b"e", 23)?;
     assert_eq!(rt; fifth.object.number(), 2);
     assert_eq!(rt;
-        store.create_file(&mut memory, owner, b"f", Secret::new(29), &mut scratch),
+        bench.file(&mut memory, b"f", 29),
         Err(StoreRefusal::NoFreeRecord),
         "all are live"
     );
-    let directory = store.create_directory(&mut memory, owner, Secret::new(29), &mut scratch)?;
+    let directory = bench.directory(&mut memory, 29)?;
     assert_eq!(rt; directory.object.number(), 4, "behind the files");
+    let _ = bench.directory(&mut memory, 31)?;
+    assert_eq!(rt;
+        bench.directory(&mut memory, 37),
+        Err(StoreRefusal::NoFreeRecord)
+    );
     Ok(())
 }
 
 #[test]
 fn the_lowest_hole_is_taken(rt: HostRuntime) -> Result<(), Fail> {
-    let mut bench = Bench::new();
-    let mut memory = Memory {
-        files: &mut bench.files,
-        directories: &mut bench.directories,
-        rows: &mut bench.rows,
-        area: &mut bench.area,
-    };
-    let mut scratch = [9; SETS];
-    let Opened { mut store, owner } = open(gate()?, &mut memory, &mut scratch)?;
-    let first = store.create_file(&mut memory, owner, b"aaaaa", Secret::new(11), &mut scratch)?;
-    let _ = store.create_file(&mut memory, owner, b"bbbbb", Secret::new(13), &mut scratch)?;
-    store.destroy(&mut memory, first)?;
+    let mut room = Room::new();
+    let mut memory = lend!(room);
+    let mut bench = Bench::new(gate()?, &mut memory)?;
+    let first = bench.file(&mut memory, b"aaaaa", 11)?;
+    let _ = bench.file(&mut memory, b"bbbbb", 13)?;
+    bench.destroy(&mut memory, first)?;
     assert_eq!(rt;
-        store.create_file(
-            &mut memory,
-            owner,
-            b"ccccccc",
-            Secret::new(17),
-            &mut scratch
-        ),
+        bench.file(&mut memory, b"ccccccc", 17),
         Err(StoreRefusal::NoStart),
         "five bytes in front and six behind"
     );
-    let behind = store.create_file(&mut memory, owner, b"cccccc", Secret::new(17), &mut scratch)?;
+    let behind = bench.file(&mut memory, b"cccccc", 17)?;
     assert_eq!(rt; start(&memory, 2), Some(10));
-    let front = store.create_file(&mut memory, owner, b"ddddd", Secret::new(19), &mut scratch)?;
+    let front = bench.file(&mut memory, b"ddddd", 19)?;
     assert_eq!(rt; start(&memory, 0), Some(0));
-    assert_eq!(rt; store.read(&memory, behind)?, b"cccccc".as_slice());
-    assert_eq!(rt; store.read(&memory, front)?, b"ddddd".as_slice());
+    assert_eq!(rt; bench.read(&memory, behind)?, b"cccccc".as_slice());
+    assert_eq!(rt; bench.read(&memory, front)?, b"ddddd".as_slice());
     Ok(())
 }
 
 #[test]
 fn secrets_and_checks(rt: HostRuntime) -> Result<(), Fail> {
-    let mut bench = Bench::new();
-    let mut memory = Memory {
-        files: &mut bench.files,
-        directories: &mut bench.directories,
-        rows: &mut bench.rows,
-        area: &mut bench.area,
-    };
-    let mut scratch = [9; SETS];
-    let Opened { mut store, owner } = open(gate()?, &mut memory, &mut scratch)?;
-    let run = store.create_file(&mut memory, owner, b"abc", Secret::new(11), &mut scratch)?;
-    scratch = [9; SETS];
+    let mut room = Room::new();
+    let mut memory = lend!(room);
+    let mut bench = Bench::new(gate()?, &mut memory)?;
+    let run = bench.file(&mut memory, b"abc", 11)?;
     assert_eq!(rt;
-        store.revoke(&mut memory, run, Secret::new(11), &mut scratch),
+        bench.revoke(&mut memory, run, 11),
         Err(StoreRefusal::UnfitSecret),
         "the same secret"
     );
-    assert_eq!(rt; scratch, [0; SETS], "wiped though refused");
     assert_eq!(rt;
-        store.revoke(&mut memory, run, Secret::new(1), &mut scratch),
+        bench.revoke(&mut memory, run, 1),
         Err(StoreRefusal::UnfitSecret),
         "one stays one"
     );
     let check = Check::new(2_147_483_658).ok_or("48 bits fit")?;
     assert_eq!(rt;
-        store.size(&memory, Capability { check, ..run }),
-        Err(StoreRefusal::Denied(Denial::WrongCheck)),
+        bench.size(&memory, Capability { check, ..run }),
+        Err(WRONG_CHECK),
         "the modulus and 11"
     );
-    let mut short = [9; 255];
-    assert_eq!(rt;
-        store.revoke(&mut memory, run, Secret::new(13), &mut short),
-        Err(StoreRefusal::WrongSizes)
-    );
-    assert_eq!(rt; short, [9; 255], "not wiped where it has another size");
     Ok(())
-}
-
-#[test]
-fn unsound_memory_is_left_alone(rt: HostRuntime) -> Result<(), Fail> {
-    let mut bench = Bench::new();
-    let mut memory = Memory {
-        files: &mut bench.files,
-        directories: &mut bench.directories,
-        rows: &mut bench.rows,
-        area: &mut bench.area,
-    };
-    let mut scratch = [9; SETS];
-    let Opened { mut store, owner } = open(gate()?, &mut memory, &mut scratch)?;
-    let run = store.create_file(&mut memory, owner, b"abc", Secret::new(11), &mut scratch)?;
-    if let Some(file) = memory.files.get_mut(1) {
-        *file = old_file();
-    }
-    assert_eq!(rt; store.size(&memory, run), Err(StoreRefusal::UnsoundMemory));
-    assert_eq!(rt;
-        store.destroy(&mut memory, run),
-        Err(StoreRefusal::UnsoundMemory)
-    );
-    assert_eq!(rt; start(&memory, 1), Some(9));
-    assert_eq!(rt; memory.area.get(2), Some(&b'c'));
-    Ok(())
-}
-
-#[test]
-fn no_secret_is_fit_in_the_identity(rt: HostRuntime) {
-    let mut bench = Bench::new();
-    let mut memory = Memory {
-        files: &mut bench.files,
-        directories: &mut bench.directories,
-        rows: &mut bench.rows,
-        area: &mut bench.area,
-    };
-    let mut scratch = [9; SETS];
-    let gate = Gate {
-        family: Unmoving,
-        port: PORT,
-        secret: Secret::new(7),
-    };
-    let refused = open(gate, &mut memory, &mut scratch).err();
-    assert_eq!(rt; refused, Some(StoreRefusal::UnfitSecret));
-    assert_eq!(rt; scratch, [0; SETS]);
-    assert_eq!(rt; start(&memory, 0), Some(9), "memory is as it was");
-    assert_eq!(rt; memory.area.first(), Some(&9));
 }

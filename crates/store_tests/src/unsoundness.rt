@@ -1,0 +1,191 @@
+//! Memory that was spoilt between two requests, in each way that there is: refused, and left as it is.
+use crate::bench::{Bench, Room, gate, lend, old_row};
+use family::Powers;
+use holder::{Capability, Check, Port};
+use memory::{DirectoryRecord, FileRecord, Memory, Row};
+use secret::Secret;
+use std::test::Fail;
+use store::StoreRefusal;
+
+const MODULUS: u64 = 2_147_483_647;
+
+/// What is wrong with the memory.
+#[derive(Clone, Copy, Debug)]
+enum Flaw {
+    SecretOfAFile,
+    SecretOfADirectory,
+    PastTheArea,
+    PastAnyNumber,
+    SharedByte,
+    SeventeenRows,
+    NoName,
+    LongName,
+    Slash,
+    SameNames,
+    OtherPort,
+    Check,
+}
+
+const FLAWS: [Flaw; 12] = [
+    Flaw::SecretOfAFile,
+    Flaw::SecretOfADirectory,
+    Flaw::PastTheArea,
+    Flaw::PastAnyNumber,
+    Flaw::SharedByte,
+    Flaw::SeventeenRows,
+    Flaw::NoName,
+    Flaw::LongName,
+    Flaw::Slash,
+    Flaw::SameNames,
+    Flaw::OtherPort,
+    Flaw::Check,
+];
+
+/// The file with a flaw, which is one byte at the start of the area as it stands.
+fn spoilt_file(flaw: Flaw, file: FileRecord) -> FileRecord {
+    match flaw {
+        Flaw::SecretOfAFile => FileRecord {
+            secret: Secret::new(MODULUS),
+            ..file
+        },
+        Flaw::PastTheArea => FileRecord { length: 17, ..file },
+        Flaw::PastAnyNumber => FileRecord {
+            start: u64::MAX,
+            ..file
+        },
+        Flaw::SharedByte => FileRecord { length: 2, ..file },
+        _ => file,
+    }
+}
+
+/// The directory with a flaw, which has two rows as it stands.
+fn spoilt_directory(flaw: Flaw, directory: DirectoryRecord) -> DirectoryRecord {
+    match flaw {
+        Flaw::SecretOfADirectory => DirectoryRecord {
+            secret: Secret::new(MODULUS),
+            ..directory
+        },
+        Flaw::SeventeenRows => DirectoryRecord {
+            count: 17,
+            ..directory
+        },
+        _ => directory,
+    }
+}
+
+/// The row with a flaw, which has the name `b` as it stands, after a row with the name `a`.
+fn spoilt_row(flaw: Flaw, row: Row) -> Result<Row, Fail> {
+    Ok(match flaw {
+        Flaw::NoName => Row { length: 0, ..row },
+        Flaw::LongName => Row { length: 25, ..row },
+        Flaw::Slash => Row {
+            name: [b'/'; 24],
+            ..row
+        },
+        Flaw::SameNames => Row {
+            name: [b'a'; 24],
+            ..row
+        },
+        Flaw::OtherPort => {
+            let port = Port { bytes: [9; 6] };
+            Row {
+                capability: Capability {
+                    port,
+                    ..row.capability
+                },
+                ..row
+            }
+        }
+        Flaw::Check => {
+            let check = Check::new(MODULUS).ok_or("31 bits fit")?;
+            Row {
+                capability: Capability {
+                    check,
+                    ..row.capability
+                },
+                ..row
+            }
+        }
+        _ => row,
+    })
+}
+
+/// A store with two files of one byte and a directory of two rows, the memory that it lies in, and the first file's owner capability.
+#[derive(Drop)]
+struct Prepared {
+    bench: Bench<Powers>,
+    room: Room,
+    run: Capability,
+}
+
+/// A row with a name of one byte.
+fn row(name: u8, capability: Capability) -> Row {
+    Row {
+        length: 1,
+        name: [name; 24],
+        capability,
+        ..old_row()
+    }
+}
+
+fn prepare() -> Result<Prepared, Fail> {
+    let mut room = Room::new();
+    let mut memory = lend!(room);
+    let mut bench = Bench::new(gate()?, &mut memory)?;
+    let run = bench.file(&mut memory, b"x", 11)?;
+    let other = bench.file(&mut memory, b"y", 13)?;
+    let _ = bench.directory(&mut memory, 17)?;
+    room.rows[0] = row(b'a', run);
+    room.rows[1] = row(b'b', other);
+    room.directories[0].count = 2;
+    Ok(Prepared { bench, room, run })
+}
+
+/// Whether all that two memories hold is the same.
+fn are_same(a: &Room, b: &Room) -> bool {
+    let files = a.files.iter().zip(&b.files).all(|(x, y)| {
+        x.live == y.live && x.secret.same(y.secret) && x.start == y.start && x.length == y.length
+    });
+    let directories = a.directories.iter().zip(&b.directories).all(|(x, y)| {
+        x.live == y.live && x.secret.same(y.secret) && x.count == y.count
+    });
+    let rows = a.rows.iter().zip(&b.rows).all(|(x, y)| {
+        x.length == y.length && x.name == y.name && x.capability == y.capability
+    });
+    files && directories && rows && a.area == b.area
+}
+
+#[test]
+fn the_memory_without_a_flaw(rt: HostRuntime) -> Result<(), Fail> {
+    let Prepared {
+        bench,
+        mut room,
+        run,
+    } = prepare()?;
+    let memory = lend!(room);
+    assert_eq!(rt; bench.size(&memory, run), Ok(1));
+    Ok(())
+}
+
+#[test]
+fn each_flaw_is_refused_and_left_alone(rt: HostRuntime) -> Result<(), Fail> {
+    for flaw in FLAWS {
+        let Prepared {
+            bench,
+            mut room,
+            run,
+        } = prepare()?;
+        room.files[0] = spoilt_file(flaw, room.files[0]);
+        room.directories[0] = spoilt_directory(flaw, room.directories[0]);
+        room.rows[1] = spoilt_row(flaw, room.rows[1])?;
+        let before = room;
+        let mut memory = lend!(room);
+        assert_eq!(rt;
+            bench.destroy(&mut memory, run),
+            Err(StoreRefusal::UnsoundMemory),
+            "{flaw:?}"
+        );
+        assert!(rt; are_same(&room, &before), "{flaw:?}");
+    }
+    Ok(())
+}
