@@ -146,6 +146,13 @@ fn rows_of_directories(rt: HostRuntime) -> Result<(), Fail> {
         !sound(files, directory(true, 1, 2), a, row(32, 1))?,
         "a space"
     );
+    Ok(())
+}
+
+#[test]
+fn names_and_ports_of_rows(rt: HostRuntime) -> Result<(), Fail> {
+    let files = [file(false, 0, 0), file(false, 0, 0)];
+    let (a, b) = (row(b'a', 1), row(b'b', 100));
     let without_name = Row { length: 0, ..a };
     assert!(rt;
         !sound(files, directory(true, 1, 1), without_name, b)?,

@@ -83,49 +83,51 @@ fn sizes_within_the_limits(rt: HostRuntime) -> Result<(), Fail> {
     Ok(())
 }
 
+/// One past a limit each, or with a number of rows that the directories do not have.
+const WRONG: [Sizes; 9] = [
+    Sizes {
+        files: 0,
+        ..SMALLEST
+    },
+    Sizes {
+        files: 257,
+        ..LARGEST
+    },
+    Sizes {
+        directories: 0,
+        rows: 0,
+        ..SMALLEST
+    },
+    Sizes {
+        directories: 65,
+        rows: 1040,
+        ..LARGEST
+    },
+    Sizes {
+        rows: 15,
+        ..SMALLEST
+    },
+    Sizes {
+        rows: 17,
+        ..SMALLEST
+    },
+    Sizes {
+        area: 1_048_577,
+        ..LARGEST
+    },
+    Sizes {
+        scratch: 255,
+        ..SMALLEST
+    },
+    Sizes {
+        scratch: 257,
+        ..SMALLEST
+    },
+];
+
 #[test]
 fn sizes_past_the_limits(rt: HostRuntime) -> Result<(), Fail> {
-    let wrong = [
-        Sizes {
-            files: 0,
-            ..SMALLEST
-        },
-        Sizes {
-            files: 257,
-            ..LARGEST
-        },
-        Sizes {
-            directories: 0,
-            rows: 0,
-            ..SMALLEST
-        },
-        Sizes {
-            directories: 65,
-            rows: 1040,
-            ..LARGEST
-        },
-        Sizes {
-            rows: 15,
-            ..SMALLEST
-        },
-        Sizes {
-            rows: 17,
-            ..SMALLEST
-        },
-        Sizes {
-            area: 1_048_577,
-            ..LARGEST
-        },
-        Sizes {
-            scratch: 255,
-            ..SMALLEST
-        },
-        Sizes {
-            scratch: 257,
-            ..SMALLEST
-        },
-    ];
-    for sizes in wrong {
+    for sizes in WRONG {
         assert_eq!(rt; refused(rt.alloc(), sizes)?, Some(true));
     }
     Ok(())
