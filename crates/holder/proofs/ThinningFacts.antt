@@ -1,8 +1,9 @@
 -- Giving rights up, in a family: every drop is a thinning, and two thinnings are one. The laws follow from these.
 use Rattle.std.proofs.Common.{◌≡◌, ℕ, ◌-◌, ◌<◌, ◌≤◌, Bool, true, false, cond, not, ◌&&◌, ◌||◌, eqb, ltb, List, [], ◌∷◌, IfOk, Ok, Err, Result, sym, refl, ap, ◌∙◌, subst, inl, inr, mod-eq_of_lt, arith}
-use lib.Bits.{bit_and, and_comm}
+use lib.Bits.{bit_and, and_comm, and_self, and_le_r}
 use Rattle.std.proofs.ByRecursion.{all_kept_by}
 use Rattle.std.proofs.lemmas.Bool.{lt-ltb, le-ltb, cases_lt, eqb-true, false≢true}
+use Rattle.std.proofs.lemmas.Nat.{and_assoc}
 use Rattle.std.specs.List.{AllByRecursion}
 use Rattle.refusal.specs.Chains.{unless, and_then}
 use Rattle.family.specs.Rights.{has, missing, none, union}
@@ -27,6 +28,23 @@ pub record Whole (c : Capability) : Type 0 where
 -- a right is lost where it is held and the mask's bit is 0
 has_lost : (r m k : ℕ) → m < 256 → k < 8 → has (lost r m) k ≡ (has r k && not (has m k))
 has_lost r m k p q = has_and r (255 - m) k ∙ ap (λ b. has r k && b) (has_not m k p q)
+
+-- and where it is held and not left
+lost_rest : (r m k : ℕ) → m < 256 → k < 8 → has (lost r m) k ≡ (has r k && not (has (bit_and r m) k))
+lost_rest r m k p q = has_lost r m k p q ∙ cases (has r k) (has m k) ∙ ap (λ b. has r k && not b) (sym (has_and r m k))
+  where
+    cases : (a b : Bool) → (a && not b) ≡ (a && not (a && b))
+    cases true b = refl
+    cases false b = refl
+
+-- masks that leave the same rights leave the same capability
+kept_like : (f : ℕ → ℕ → ℕ) (c : Capability) (a b : ℕ) → a < 256 → b < 256 → bit_and c.rights.bits a ≡ bit_and c.rights.bits b → kept f c a ≡ kept f c b
+kept_like f c a b p q e =
+    let r : ℕ = c.rights.bits in
+    let v : ℕ = check_number c in
+    ap (λ x. with_rights c x (thin f v (has (lost r a)))) e
+    ∙ ap (with_rights c (bit_and r b))
+    (thin_like f (has (lost r a)) (has (lost r b)) v (λ k h. lost_rest r a k p h ∙ ap (λ x. has r k && not (has x k)) e ∙ sym (lost_rest r b k q h)))
 
 -- what two masks lose, one after the other, is what their meet loses, and nothing is lost twice
 module _ (r m m' : ℕ) (p : m < 256) (p' : m' < 256) where
@@ -54,18 +72,6 @@ module _ (r m m' : ℕ) (p : m < 256) (p' : m' < 256) where
       cases true true d e' = absurd (false≢true e')
       cases true false d e' = refl
       cases false b d e' = refl
-
--- the rights of both masks
-and_both : (r m m' : ℕ) → r < 256 → bit_and (bit_and r m) m' ≡ bit_and r (bit_and m m')
-and_both r m m' h =
-    same_byte (bit_and (bit_and r m) m') (bit_and r (bit_and m m')) (and_byte (bit_and r m) m' (and_byte r m h)) (and_byte r (bit_and m m') h)
-    (λ k p.
-    has_and (bit_and r m) m' k ∙ ap (λ b. b && has m' k) (has_and r m k) ∙ assoc (has r k) (has m k) (has m' k)
-    ∙ ap (λ b. has r k && b) (sym (has_and m m' k)) ∙ sym (has_and r (bit_and m m') k))
-  where
-    assoc : (a b d : Bool) → ((a && b) && d) ≡ (a && (b && d))
-    assoc true b d = refl
-    assoc false b d = refl
 
 -- what the mask of every right but k loses: right k, where it is held
 lost_one : (r k j : ℕ) → k < 8 → j < 8 → has (lost r (all_but k)) j ≡ (has r k && eqb j k)
@@ -116,26 +122,41 @@ module _ (n : ℕ) (f : ℕ → ℕ → ℕ) (family : Commuting n f) where
   thin_below_lem : (c : Capability) (m : ℕ) → check_number c < n → thin f (check_number c) (has (lost c.rights.bits m)) < n
   thin_below_lem c m h = (thin_laws n f family).stays_below (check_number c) (has (lost c.rights.bits m)) h
 
-  kept_number : (c : Capability) (m : ℕ) → check_number c < n → check_number (kept f c m) ≡ thin f (check_number c) (has (lost c.rights.bits m))
+  pub kept_number : (c : Capability) (m : ℕ) → check_number c < n → check_number (kept f c m) ≡ thin f (check_number c) (has (lost c.rights.bits m))
   kept_number c m h = number_six (thin f (check_number c) (has (lost c.rights.bits m))) (thin_below_lem c m h)
 
-  kept_below : (c : Capability) (m : ℕ) → check_number c < n → check_number (kept f c m) < n
+  pub kept_below : (c : Capability) (m : ℕ) → check_number c < n → check_number (kept f c m) < n
   kept_below c m h = rw (kept_number c m h) (thin_below_lem c m h)
 
   pub kept_whole : (c : Capability) (m : ℕ) → c.rights.bits < 256 → check_number c < n → Whole (kept f c m)
   kept_whole c m h p = record { byte = and_byte c.rights.bits m h; again = ap (bytes_of 6) (kept_number c m p) }
 
   -- two thinnings are one
-  kept_kept : (c : Capability) (m m' : ℕ) → c.rights.bits < 256 → m < 256 → m' < 256 → check_number c < n → kept f (kept f c m) m' ≡ kept f c (bit_and m m')
-  kept_kept c m m' h q q' p =
+  pub kept_kept : (c : Capability) (m m' : ℕ) → m < 256 → m' < 256 → check_number c < n → kept f (kept f c m) m' ≡ kept f c (bit_and m m')
+  kept_kept c m m' q q' p =
       let r : ℕ = c.rights.bits in
       let v : ℕ = check_number c in
       let e : thin f (check_number (kept f c m)) (has (lost (bit_and r m) m')) ≡ thin f v (has (lost r (bit_and m m'))) =
       ap (λ x. thin f x (has (lost (bit_and r m) m'))) (kept_number c m p)
       ∙ (thin_laws n f family).by_both v (has (lost r m)) (has (lost (bit_and r m) m')) p (lost_once r m m' q q')
       ∙ thin_like f (union (has (lost r m)) (has (lost (bit_and r m) m'))) (has (lost r (bit_and m m'))) v (lost_both r m m' q q') in
-      ap (λ x. with_rights c x (thin f (check_number (kept f c m)) (has (lost (bit_and r m) m')))) (and_both r m m' h)
+      ap (λ x. with_rights c x (thin f (check_number (kept f c m)) (has (lost (bit_and r m) m')))) (and_assoc m' r m)
       ∙ ap (with_rights c (bit_and r (bit_and m m'))) e
+
+  -- a mask within another one: thinned to the wider one and then to what the narrower one leaves is thinned to the narrower one
+  pub kept_again : (c : Capability) (m m' : ℕ) → m < 256 → m' < 256 → check_number c < n → ((k : ℕ) → k < 8 → has m' k ≡ true → has m k ≡ true)
+      → kept f (kept f c m) (kept f c m').rights.bits ≡ kept f c m'
+  kept_again c m m' q q' p within =
+      let r : ℕ = c.rights.bits in
+      let left : ℕ = bit_and r m' in
+      let inside : bit_and m' m ≡ m' = and_kept m' m q' q (λ k h. has_lost m' m k q h ∙ none-lost (has m' k) (has m k) (within k h)) in
+      kept_kept c m left q (omega (arith, and_le_r r m')) p
+      ∙ kept_like f c (bit_and m left) m' (and_byte m left q) q'
+      (ap (bit_and r) (and_comm m left ∙ and_assoc m r m' ∙ ap (bit_and r) inside) ∙ sym (and_assoc m' r r) ∙ ap (λ x. bit_and x m') (and_self r))
+    where
+      none-lost : (a b : Bool) → (a ≡ true → b ≡ true) → (a && not b) ≡ false
+      none-lost true b e = ap not (e refl)
+      none-lost false b e = refl
 
   -- a mask that loses nothing keeps the capability as it is
   kept_all : (c : Capability) (m : ℕ) → Whole c → m < 256 → ((k : ℕ) → k < 8 → has (lost c.rights.bits m) k ≡ false) → kept f c m ≡ c
@@ -165,12 +186,12 @@ module _ (n : ℕ) (f : ℕ → ℕ → ℕ) (family : Commuting n f) where
   thinned_err c m h = ap (λ b. unless b CheckTooLarge (Ok (kept f c m))) (le-ltb (check_number c) n h)
 
   -- what thins after a thinning thins to what both keep
-  after : (c : Capability) (m m' : ℕ) (next : Capability → Result Capability HolderRefusal) → c.rights.bits < 256 → m < 256 → m' < 256
+  after : (c : Capability) (m m' : ℕ) (next : Capability → Result Capability HolderRefusal) → m < 256 → m' < 256
       → (check_number c < n → next (kept f c m) ≡ thinned n f (kept f c m) m') → and_then (thinned n f c m) next ≡ thinned n f c (bit_and m m')
-  after c m m' next h q q' e = elim (cases_lt (check_number c) n) [
+  after c m m' next q q' e = elim (cases_lt (check_number c) n) [
     | inl p ↦
         ap (λ x. and_then x next) (thinned_ok c m p) ∙ e p ∙ thinned_ok (kept f c m) m' (kept_below c m p)
-        ∙ ap Ok (kept_kept c m m' h q q' p) ∙ sym (thinned_ok c (bit_and m m') p)
+        ∙ ap Ok (kept_kept c m m' q q' p) ∙ sym (thinned_ok c (bit_and m m') p)
     | inr p ↦ ap (λ x. and_then x next) (thinned_err c m p) ∙ sym (thinned_err c (bit_and m m') p)
   ]
 
@@ -180,13 +201,13 @@ module _ (n : ℕ) (f : ℕ → ℕ → ℕ) (family : Commuting n f) where
       ∙ ap (λ x. unless (ltb (check_number c) n) CheckTooLarge (Ok x)) (drop_thins c k w p)
 
   -- the laws
-  pub twice_is_once : (c : Capability) (m : ℕ) → c.rights.bits < 256 → m < 256 → TwiceIsOnce n f c m
-  twice_is_once c m h q = λ m' q'. after c m m' (λ d. thinned n f d m') h q q' (λ _. refl)
+  pub twice_is_once : (c : Capability) (m : ℕ) → m < 256 → TwiceIsOnce n f c m
+  twice_is_once c m q = λ m' q'. after c m m' (λ d. thinned n f d m') q q' (λ _. refl)
 
   two_drops : (c : Capability) (j k : ℕ) → Whole c → j < 8 → k < 8 → and_then (dropped n f c j) (λ d. dropped n f d k) ≡ thinned n f c (bit_and (all_but j) (all_but k))
   two_drops c j k w p q =
       ap (λ x. and_then x (λ d. dropped n f d k)) (dropped_thins c j w p)
-      ∙ after c (all_but j) (all_but k) (λ d. dropped n f d k) w.byte (omega arith) (omega arith) (λ h. dropped_thins (kept f c (all_but j)) k (kept_whole c (all_but j) w.byte h) q)
+      ∙ after c (all_but j) (all_but k) (λ d. dropped n f d k) (omega arith) (omega arith) (λ h. dropped_thins (kept f c (all_but j)) k (kept_whole c (all_but j) w.byte h) q)
 
   pub any_order : (c : Capability) (k : ℕ) → Whole c → AnyOrder n f c k
   any_order c k w = λ j p q. two_drops c k j w q p ∙ ap (thinned n f c) (and_comm (all_but k) (all_but j)) ∙ sym (two_drops c j k w p q)
@@ -201,7 +222,7 @@ module _ (n : ℕ) (f : ℕ → ℕ → ℕ) (family : Commuting n f) where
       full false b e = refl
   each_dropped (k ∷ ks) c w p h =
       ap (λ x. and_then x (λ d. dropped_each n f d ks)) (dropped_thins c k w p.0)
-      ∙ after c (all_but k) (mask_but ks) (λ d. dropped_each n f d ks) w.byte (omega arith) (mask_byte ks)
+      ∙ after c (all_but k) (mask_but ks) (λ d. dropped_each n f d ks) (omega arith) (mask_byte ks)
       (λ q. each_dropped ks (kept f c (all_but k)) (kept_whole c (all_but k) w.byte q) p.1 (kept_below c (all_but k) q))
 
   pub one_by_one : (c : Capability) (m : ℕ) → Whole c → m < 256 → OneByOne n f c m

@@ -19,6 +19,6 @@ returns g c =
     record {
       value = c.within_mask.ensures;
       genuine = subst (StaysGenuine n f c.args.self) (sym c.within_mask.ensures) (thinned_genuine n f laws c.args.self c.args.mask.bits mask);
-      twice = twice_is_once n f laws c.args.self c.args.mask.bits byte mask;
+      twice = twice_is_once n f laws c.args.self c.args.mask.bits mask;
       one_by_one = one_by_one n f laws c.args.self c.args.mask.bits (record { byte = byte; again = again }) mask;
     }
