@@ -31,7 +31,7 @@ decides_leb : (a b : ℕ) → Decides (leb a b) (a ≤ b)
 decides_leb a b = (leb-true a b, le-leb a b)
 
 -- names and rows
-decides_name : (bs : List ℕ) → Decides (lawful_name bs) (LawfulName bs)
+pub decides_name : (bs : List ℕ) → Decides (lawful_name bs) (LawfulName bs)
 decides_name bs =
     Decides-and (leb 1 (length bs)) _ (decides_leb 1 (length bs))
     (Decides-and (leb (length bs) 24) _ (decides_leb (length bs) 24)

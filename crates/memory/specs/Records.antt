@@ -32,3 +32,7 @@ renewed_file r secret = record { live = r.live; secret = secret; start = r.start
 
 abbrev pub renewed_directory : DirectoryRecord → Secret → DirectoryRecord
 renewed_directory d secret = record { live = d.live; secret = secret; count = d.count }
+
+-- the same directory with another count of rows
+abbrev pub recounted : DirectoryRecord → ℕ → DirectoryRecord
+recounted d count = record { live = d.live; secret = d.secret; count = count }

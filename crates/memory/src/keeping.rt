@@ -1,7 +1,7 @@
 //! Records as a table keeps them, and new ones made from old.
 //!
 //! Files and directories have different fields; what is alike in them is a line each, and a trait for it would be longer.
-ghost use Rattle.memory.specs.Records.{blank_directory, blank_file, made_directory, made_file, renewed_directory, renewed_file};
+ghost use Rattle.memory.specs.Records.{blank_directory, blank_file, made_directory, made_file, recounted, renewed_directory, renewed_file};
 ghost use Rattle.std.specs.Prelude.{◌≡◌};
 ghost use Rattle.std.proofs.Common.{rules};
 
@@ -80,5 +80,12 @@ impl DirectoryRecord {
         ensures { result ≡ renewed_directory self secret }
     {
         DirectoryRecord { secret, ..self }
+    }
+
+    /// The same directory with another count of rows.
+    pub fn recounted(self, count: u64) -> DirectoryRecord
+        ensures { result ≡ recounted self count }
+    {
+        DirectoryRecord { count, ..self }
     }
 }

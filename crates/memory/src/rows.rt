@@ -10,7 +10,7 @@ use holder::Port;
 
 impl Row {
     /// The name: as many of its bytes as the row says, and no more than there are.
-    fn name(&self) -> &[u8]
+    pub fn name(&self) -> &[u8]
         ensures { result.now ≡ name_of self.now }
     {
         &self.name[..self.length.min(24) as usize]
