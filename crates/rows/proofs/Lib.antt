@@ -1,0 +1,5 @@
+pub mod LastFacts
+pub mod GapFacts
+pub mod SeenFacts
+pub mod RowFacts
+pub mod PathFacts

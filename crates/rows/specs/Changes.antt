@@ -1,0 +1,31 @@
+-- New rows, and rows with one changed: a gap closed, and the last one written.
+use Rattle.std.specs.Prelude.{ℕ, ◌+◌, ◌-◌, cond, List, [], ◌∷◌, ◌++◌, length, take, drop, replicate, nat_lt}
+use Rattle.holder.specs.declared.capability.Capability.{Capability}
+use Rattle.memory.specs.Wiped.{zero_row}
+use Rattle.memory.specs.declared.records.Masks.{Masks}
+use Rattle.memory.specs.declared.records.Row.{Row}
+
+-- the row of a name of at most 24 bytes, with zeros behind the name
+abbrev pub row_of : List ℕ → Capability → Masks → Row
+row_of name capability masks = record {
+  length = length name;
+  name = name ++ replicate (24 - length name) 0;
+  capability = capability;
+  masks = masks;
+}
+
+-- the rows without the one at a place
+abbrev pub without_at : ℕ → List Row → List Row
+without_at p rows = take p rows ++ drop (p + 1) rows
+
+-- the rows behind a place each moved down by one, and a row of zeros where the last one was
+abbrev pub closed : ℕ → List Row → List Row
+closed p rows = without_at p rows ++ zero_row ∷ []
+
+-- the same, where there is such a place; else the rows as they are
+abbrev pub closed_if_there : ℕ → List Row → List Row
+closed_if_there p rows = cond (nat_lt p (length rows)) (closed p rows) rows
+
+-- the rows with this one in the place of the last; no rows stay none
+abbrev pub with_last : Row → List Row → List Row
+with_last row rows = cond (nat_lt 0 (length rows)) (take (length rows - 1) rows ++ row ∷ []) rows

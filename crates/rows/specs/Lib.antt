@@ -1,0 +1,4 @@
+pub mod Search
+pub mod Changes
+pub mod Seen
+pub mod Paths

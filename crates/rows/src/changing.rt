@@ -1,0 +1,49 @@
+//! New rows, and rows with one changed.
+ghost use Rattle.memory.specs.Names.{name_of};
+ghost use Rattle.rows.specs.Changes.{closed, closed_if_there, row_of, with_last};
+ghost use Rattle.std.specs.Prelude.{◌≡◌, ◌-◌, ◌<◌, ◌≤◌, [], ◌∷◌, ◌++◌, length, take};
+
+use holder::Capability;
+use memory::{Masks, Row, zero_row};
+
+/// The row of a name, of which it holds at most 24 bytes.
+pub fn row_of(name: &[u8], capability: Capability, masks: Masks) -> Row
+    ensures value { result ≡ row_of (take 24 name.now) capability masks }
+    ensures whole { length name.now ≤ 24 → result ≡ row_of name.now capability masks }
+    ensures back { name_of result ≡ take 24 name.now }
+{
+    let length = name.len().min(24);
+    let mut bytes = [0; 24];
+    bytes[..length].copy_from_slice(&name[..length]);
+    Row {
+        length: length as u64,
+        name: bytes,
+        capability,
+        masks,
+    }
+}
+
+/// Moves each row behind a place down by one and lays a row of zeros where the last one was; rows without that place stay as they are.
+pub fn close_gap(rows: &mut [Row], place: usize)
+    ensures value { rows.new ≡ closed_if_there place rows.old }
+    ensures there { place < length rows.old → rows.new ≡ closed place rows.old }
+    ensures size { length rows.new ≡ length rows.old }
+{
+    if place >= rows.len() {
+        return;
+    }
+    rows.copy_within(place + 1.., place);
+    put_last(rows, zero_row());
+}
+
+/// Writes a row in the place of the last one, if there is one.
+pub fn put_last(rows: &mut [Row], row: Row)
+    ensures value { rows.new ≡ with_last row rows.old }
+    ensures there { 0 < length rows.old → rows.new ≡ take (length rows.old - 1) rows.old ++ row ∷ [] }
+    ensures size { length rows.new ≡ length rows.old }
+{
+    let count = rows.len();
+    if count > 0 {
+        rows[count - 1] = row;
+    }
+}
