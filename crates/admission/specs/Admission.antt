@@ -1,7 +1,6 @@
 -- Whether a presented capability is admitted: port, object, check, then kind and right.
 use Rattle.std.specs.Prelude.{ℕ, List, Ok, Result}
 use Rattle.refusal.specs.Chains.{unless, given, and_then}
-use Rattle.family.specs.Rights.{has}
 use Rattle.holder.specs.Bytes.{number}
 use Rattle.holder.specs.Dropping.{check_number}
 use Rattle.holder.specs.declared.capability.Capability.{Capability}
@@ -9,7 +8,7 @@ use Rattle.secret.specs.Accepted.{accepted}
 use Rattle.secret.specs.declared.secrets.Secret.{Secret}
 use Rattle.memory.specs.Names.{same_bytes}
 use Rattle.memory.specs.Soundness.{Content}
-use Rattle.admission.specs.Needs.{kind_fits, right_asked}
+use Rattle.admission.specs.Needs.{kind_fits, rights_asked, has_one}
 use Rattle.admission.specs.Objects.{located, secret_of}
 use Rattle.admission.specs.declared.denials.Denial.{Denial}
 use Rattle.admission.specs.declared.denials.Denial.TheVariants.{WrongPort, NoSuchObject, WrongCheck, WrongKind, RightMissing}
@@ -26,7 +25,7 @@ judged n f port own m c =
 -- an object may be asked so with these rights
 abbrev pub permitted : Asking → Target → ℕ → Result Target Denial
 permitted asking target rights =
-    unless (kind_fits asking target) WrongKind (unless (has rights (right_asked asking)) RightMissing (Ok target))
+    unless (kind_fits asking target) WrongKind (unless (has_one rights (rights_asked asking)) RightMissing (Ok target))
 
 -- the object of a capability that is admitted to a request
 abbrev pub admitted : ℕ → (ℕ → ℕ → ℕ) → List ℕ → Secret → Content → Asking → Capability → Result Target Denial

@@ -5,8 +5,8 @@ ghost use Rattle.std.specs.Prelude.{◌≡◌};
 
 use crate::denials::Denial;
 use crate::objects::{Target, locate};
-use crate::requests::Asking;
-use family::{CommutingFamily, has_right};
+use crate::requests::{Asking, has_one};
+use family::CommutingFamily;
 use holder::{Capability, Port, Rights};
 use memory::Memory;
 use secret::Secret;
@@ -26,7 +26,7 @@ fn permit(asking: Asking, target: Target, rights: Rights) -> Result<Target, Deni
     if !asking.fits(target) {
         return Err(Denial::WrongKind);
     }
-    if !has_right(rights.bits, asking.right()) {
+    if !has_one(rights.bits, asking.rights()) {
         return Err(Denial::RightMissing);
     }
     Ok(target)

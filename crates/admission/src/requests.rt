@@ -1,16 +1,29 @@
 //! The requests to a store, by what they ask of the capability presented.
-ghost use Rattle.std.specs.Prelude.{◌≡◌, ◌<◌};
-ghost use Rattle.admission.specs.Needs.{kind_fits, right_asked};
+ghost use Rattle.std.specs.Prelude.{◌≡◌};
+ghost use Rattle.admission.specs.Needs.{has_one, kind_fits, rights_asked};
 
 use crate::objects::Target;
+use family::has_right;
 
-/// A request, apart from what it brings.
+/// Whether one right of a list is in the set that the byte stands for.
+pub(crate) fn has_one(byte: u8, rights: &[u64]) -> bool
+    ensures { result ≡ has_one byte rights.now }
+{
+    rights.iter().any(|k| has_right(byte, *k))
+}
+
+/// A request, apart from what it brings; a walk asks as the look-ups that it is made of.
 #[derive(Clone, Copy, PartialEq, Eq, Debug)]
 pub enum Asking {
     CreateFile,
     CreateDirectory,
     Read,
     Size,
+    LookUp,
+    Row,
+    Name,
+    Enter,
+    Remove,
     Destroy,
     Revoke,
 }
@@ -24,21 +37,30 @@ impl Asking {
             (Asking::Revoke, _) => true,
             (Asking::CreateFile | Asking::CreateDirectory, Target::Itself) => true,
             (Asking::Read | Asking::Size | Asking::Destroy, Target::File(..)) => true,
-            (Asking::Destroy, Target::Directory(..)) => true,
+            (
+                Asking::LookUp
+                | Asking::Row
+                | Asking::Name
+                | Asking::Enter
+                | Asking::Remove
+                | Asking::Destroy,
+                Target::Directory(..),
+            ) => true,
             _ => false,
         }
     }
 
-    /// The number of the right that is asked for; a number and no enum, as in the families.
-    pub fn right(self) -> u64
-        ensures value { result ≡ right_asked self }
-        ensures one { result < 8 }
+    /// The rights of which one is asked for; numbers and no enum, as in the families.
+    pub fn rights(self) -> &'static [u64]
+        ensures { result.now ≡ rights_asked self }
     {
         match self {
-            Asking::CreateFile | Asking::Read => 0,
-            Asking::CreateDirectory | Asking::Size => 1,
-            Asking::Destroy => 4,
-            Asking::Revoke => 5,
+            Asking::CreateFile | Asking::Read => &[0],
+            Asking::CreateDirectory | Asking::Size => &[1],
+            Asking::LookUp | Asking::Row | Asking::Name => &[0, 1, 2],
+            Asking::Enter | Asking::Remove => &[3],
+            Asking::Destroy => &[4],
+            Asking::Revoke => &[5],
         }
     }
 }
