@@ -1,7 +1,9 @@
 pub mod Steps
 pub mod Standing
-pub mod Entering
+pub mod Admitting
 pub mod EntryFacts
-pub mod FileFacts
+pub mod Deciding
 pub mod Telling
 pub mod Apart
+pub mod Following
+pub mod LookFacts

@@ -18,9 +18,9 @@ use Rattle.store.specs.declared.refusals.StoreRefusal.TheVariants.{UnfitSecret, 
 abbrev pub fit_for : Kept → Secret → Bool
 fit_for k secret = is_fit k.modulus k.function secret.value
 
--- the area with bytes written from a start on
-abbrev pub overwritten : List ℕ → ℕ → List ℕ → List ℕ
-overwritten area start bs = take start area ++ (bs ++ drop (start + length bs) area)
+-- a list with others written from a start on
+abbrev pub overwritten : {A : Type 0} → List A → ℕ → List A → List A
+overwritten xs start ys = take start xs ++ (ys ++ drop (start + length ys) xs)
 
 -- where a new file goes: a place in the table, and a start in the area
 abbrev pub spot_for : Kept → Content → ℕ → Secret → Result Spot StoreRefusal

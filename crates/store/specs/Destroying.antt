@@ -17,7 +17,7 @@ use Rattle.store.specs.declared.refusals.StoreRefusal.TheVariants.{Denied, RowsL
 
 -- what may be destroyed: a file, and a directory that has no rows
 abbrev pub destructible : Target → Result Target StoreRefusal
-destructible Itself = Err (Denied WrongKind)
+destructible Itself = Err (Denied WrongKind 0)
 destructible (File p r) = Ok (File p r)
 destructible (Directory p d) = unless (d.count == 0) RowsLeft (Ok (Directory p d))
 

@@ -5,8 +5,12 @@ pub mod Requests
 pub mod Changes
 pub mod Creating
 pub mod Reading
+pub mod Listing
 pub mod Destroying
 pub mod Revoking
+pub mod Directories
+pub mod Entering
+pub mod LookingUp
 pub mod Served
 pub mod Opened
 pub mod Held

@@ -9,15 +9,15 @@ use Rattle.admission.specs.declared.objects.Target.TheVariants.{Itself, File, Di
 use Rattle.store.specs.declared.refusals.StoreRefusal.{StoreRefusal}
 use Rattle.store.specs.declared.refusals.StoreRefusal.TheVariants.{Denied}
 
--- so many bytes of the area, from a start on
-abbrev pub part_of : ℕ → ℕ → List ℕ → List ℕ
-part_of start len area = take len (drop start area)
+-- so many elements of a list, from a start on
+abbrev pub part_of : {A : Type 0} → ℕ → ℕ → List A → List A
+part_of start len xs = take len (drop start xs)
 
 -- the record of a file; no other object has one
 abbrev pub file_in : Target → Result FileRecord StoreRefusal
-file_in Itself = Err (Denied WrongKind)
+file_in Itself = Err (Denied WrongKind 0)
 file_in (File p r) = Ok r
-file_in (Directory p d) = Err (Denied WrongKind)
+file_in (Directory p d) = Err (Denied WrongKind 0)
 
 -- the file's part of the area
 abbrev pub bytes_in : Content → FileRecord → List ℕ

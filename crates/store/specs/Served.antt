@@ -1,20 +1,30 @@
 -- What any request comes to: its answer, and what it leaves behind.
-use Rattle.std.specs.Prelude.{◌≡◌, ℕ, ◌^◌, ◌<◌, ◌≤◌, Bool, true, cond, ◌&&◌, List, length, replicate, Ok, Result}
+use Rattle.std.specs.Prelude.{◌≡◌, ℕ, ◌^◌, ◌<◌, ◌≤◌, Bool, true, cond, ◌&&◌, List, length, replicate, Ok, Option, Result}
 use Rattle.refusal.specs.Chains.{unless, and_then, refused_as}
 use Rattle.holder.specs.declared.capability.Capability.{Capability}
 use Rattle.memory.specs.Soundness.{Content, sound}
 use Rattle.memory.specs.declared.records.FileRecord.{FileRecord}
+use Rattle.memory.specs.declared.records.Row.{Row}
+use Rattle.rows.specs.Changes.{row_of}
+use Rattle.rows.specs.Paths.{names_in}
+use Rattle.rows.specs.Search.{searched, last_for}
 use Rattle.admission.specs.Admission.{admitted}
 use Rattle.admission.specs.declared.objects.Target.{Target}
 use Rattle.admission.specs.declared.requests.Asking.{Asking}
+use Rattle.admission.specs.declared.requests.Asking.TheVariants as asked
 use Rattle.store.specs.Changes.{Change, Outcome, only_told, settled}
 use Rattle.store.specs.Creating.{created_file, created_directory}
 use Rattle.store.specs.Destroying.{WithinArea, destructible, gone}
+use Rattle.store.specs.Directories.{directory_in, WithinRows, nth_place, row_in, name_at}
+use Rattle.store.specs.Entering.{room_in, with_row, without_row}
+use Rattle.store.specs.LookingUp.{looked_up, walked_on}
 use Rattle.store.specs.Kept.{Kept, number_of}
 use Rattle.store.specs.Reading.{file_in, bytes_in}
-use Rattle.store.specs.Requests.{Ask, create_file, create_directory, read, size, destroy, revoke, the_bytes, the_size, asking, scratch_of, scratch_fits}
+use Rattle.store.specs.Requests.{Ask, create_file, create_directory, read, size, look_up, walk, row, name, enter, remove, destroy, revoke, the_bytes, the_size, found, the_name, asking, scratch_of, scratch_fits, well_named, form_of, first_place}
 use Rattle.store.specs.Revoking.{revoked}
 use Rattle.store.specs.Sizes.{sizes_agree}
+use Rattle.store.specs.declared.directories.DirectoryAt.{DirectoryAt}
+use Rattle.store.specs.declared.directories.RowAt.{RowAt}
 use Rattle.store.specs.declared.refusals.StoreRefusal.{StoreRefusal}
 use Rattle.store.specs.declared.refusals.StoreRefusal.TheVariants.{WrongSizes, UnsoundMemory, Denied}
 
@@ -27,37 +37,60 @@ pub record InOrder (k : Kept) (m : Content) : Type 0 where
   pub sizes : sizes_agree k m ≡ true
   pub sound : sound_for k m ≡ true
 
--- the object of a capability that is admitted to a request, over sound memory
-abbrev pub entered : Kept → Content → Asking → Capability → Result Target StoreRefusal
-entered k m asking c =
-    unless (sound_for k m) UnsoundMemory
-    (refused_as Denied (admitted k.modulus k.function k.port.bytes k.own m asking c))
+-- memory is in order, and then the form of what is brought is right
+abbrev pub ordered : Kept → Content → Result (Unit {0}) StoreRefusal → Result (Unit {0}) StoreRefusal
+ordered k m form = unless (sizes_agree k m) WrongSizes (unless (sound_for k m) UnsoundMemory form)
 
--- what holds of such an object: it has a number of 24 bits, and a file lies in the area
+-- the object of a capability that is admitted to a request, over sound memory, where what is brought is well formed; a denial is told at a place
+abbrev pub entered : Kept → Content → Asking → Result (Unit {0}) StoreRefusal → ℕ → Capability → Result Target StoreRefusal
+entered k m asking form place c =
+    unless (sound_for k m) UnsoundMemory
+    (and_then form (λ _. refused_as (λ d. Denied d place) (admitted k.modulus k.function k.port.bytes k.own m asking c)))
+
+-- what holds of such an object: it has a number of 24 bits, a file lies in the area, and a directory's rows lie among the rows
 pub record Entry (k : Kept) (m : Content) (target : Target) : Type 0 where
   pub narrow : sizes_agree k m ≡ true → k.files ≤ 256 → k.directories ≤ 64 → number_of k target < 2 ^ 24
   pub within : WithinArea m target
+  pub listed : sizes_agree k m ≡ true → WithinRows m target
 
 -- the record of the file that a capability is admitted to, over memory of the right sizes
 abbrev pub file_entered : Kept → Content → Asking → Capability → Result FileRecord StoreRefusal
-file_entered k m asking c = unless (sizes_agree k m) WrongSizes (and_then (entered k m asking c) file_in)
+file_entered k m asking c = unless (sizes_agree k m) WrongSizes (and_then (entered k m asking (Ok tt) 0 c) file_in)
 
--- what an admitted request comes to at its object; the capability plays no part any more
-abbrev pub carried : Kept → Content → Ask → Target → Result Change StoreRefusal
-carried k m (create_file bs secret scratch) target = created_file k m bs secret
-carried k m (create_directory secret scratch) target = created_directory k m secret
-carried k m read target = and_then (file_in target) (λ r. Ok (only_told k m (the_bytes (bytes_in m r))))
-carried k m size target = and_then (file_in target) (λ r. Ok (only_told k m (the_size r.length)))
-carried k m destroy target = and_then (destructible target) (λ t. Ok (gone k m t))
-carried k m (revoke secret scratch) target = revoked k m secret target
+-- the directory that a capability is admitted to, over memory of the right sizes
+abbrev pub directory_entered : Kept → Content → Asking → Result (Unit {0}) StoreRefusal → Capability → Result DirectoryAt StoreRefusal
+directory_entered k m asking form c = unless (sizes_agree k m) WrongSizes (and_then (entered k m asking form 0 c) directory_in)
+
+-- the row that is wanted of that directory
+abbrev pub row_entered : Kept → Content → Asking → Result (Unit {0}) StoreRefusal → Capability → (List Row → Option ℕ) → Result RowAt StoreRefusal
+row_entered k m asking form c place = unless (sizes_agree k m) WrongSizes (and_then (entered k m asking form 0 c) (row_in m place 0))
+
+-- the directory with room for an entry under a name
+abbrev pub room_entered : Kept → Content → Capability → List ℕ → Capability → Result DirectoryAt StoreRefusal
+room_entered k m c bs entry = unless (sizes_agree k m) WrongSizes (and_then (entered k m asked.Enter (well_named bs) 0 c) (room_in k m bs entry))
+
+-- what an admitted request comes to at its object; of the capability presented only the rights play a part any more, and they only where a name is looked up
+abbrev pub carried : Kept → Content → ℕ → Ask → Target → Result Change StoreRefusal
+carried k m rights (create_file bs secret scratch) target = created_file k m bs secret
+carried k m rights (create_directory secret scratch) target = created_directory k m secret
+carried k m rights read target = and_then (file_in target) (λ r. Ok (only_told k m (the_bytes (bytes_in m r))))
+carried k m rights size target = and_then (file_in target) (λ r. Ok (only_told k m (the_size r.length)))
+carried k m rights (look_up bs) target = and_then (looked_up k m rights bs 0 target) (λ c. Ok (only_told k m (found c)))
+carried k m rights (walk path) target = and_then (walked_on k m rights (names_in path) 1 target) (λ c. Ok (only_told k m (found c)))
+carried k m rights (row n) target = and_then (row_in m (nth_place n) 0 target) (λ at. Ok (only_told k m (the_name (name_at m at))))
+carried k m rights (name o) target = and_then (row_in m (last_for o) 0 target) (λ at. Ok (only_told k m (the_name (name_at m at))))
+carried k m rights (enter bs c masks) target = and_then (room_in k m bs c target) (λ d. Ok (with_row k m (row_of bs c masks) d))
+carried k m rights (remove bs) target = and_then (row_in m (searched bs) 0 target) (λ at. Ok (without_row k m at))
+carried k m rights destroy target = and_then (destructible target) (λ t. Ok (gone k m t))
+carried k m rights (revoke secret scratch) target = revoked k m secret target
 
 -- memory and scratch have the sizes that they must have
 abbrev pub fitting : Kept → Content → Ask → Bool
 fitting k m ask = sizes_agree k m && scratch_fits ask
 
--- a request whose sizes are right: soundness, port, object, check, kind, right, and then its own checks
+-- a request whose sizes are right: soundness, form, port, object, check, kind, right, and then its own checks
 abbrev pub attempted : Kept → Content → Capability → Ask → Result Change StoreRefusal
-attempted k m c ask = and_then (entered k m (asking ask) c) (λ target. carried k m ask target)
+attempted k m c ask = and_then (entered k m (asking ask) (form_of ask) (first_place ask) c) (λ target. carried k m c.rights.bits ask target)
 
 -- a request by all its checks, in their order
 abbrev pub decided : Kept → Content → Capability → Ask → Result Change StoreRefusal

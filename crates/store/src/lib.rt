@@ -6,13 +6,17 @@
 mod checking;
 mod creating;
 mod destroying;
+mod directories;
+mod entering;
 mod founding;
 mod granting;
 mod keeping;
+mod looking;
 mod opening;
 mod reading;
 mod refusals;
 mod refusing;
+mod removing;
 mod requests;
 mod revoking;
 mod serving;

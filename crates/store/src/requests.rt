@@ -1,5 +1,6 @@
 //! Any request to a store, and any answer.
-use holder::Capability;
+use holder::{Capability, Object};
+use memory::Masks;
 use secret::Secret;
 
 /// What is asked, apart from the capability presented. Creating and revoking bring a scratch.
@@ -22,6 +23,32 @@ pub enum Request<'a> {
     Read,
     /// A file's length.
     Size,
+    /// What a name leads to in a directory.
+    LookUp {
+        name: &'a [u8],
+    },
+    /// What the names of a path lead to, one after the other.
+    Walk {
+        path: &'a [u8],
+    },
+    /// The name of the row at a place of a directory, counted from 0.
+    Row {
+        place: u64,
+    },
+    /// The name of the row of a directory that was entered last with an object.
+    Name {
+        object: Object,
+    },
+    /// A row more in a directory.
+    Enter {
+        name: &'a [u8],
+        entry: Capability,
+        masks: Masks,
+    },
+    /// A row less in a directory.
+    Remove {
+        name: &'a [u8],
+    },
     /// An object's end.
     Destroy,
     /// Another secret for an object.
@@ -31,13 +58,17 @@ pub enum Request<'a> {
     },
 }
 
-/// What is told. A file's bytes are told by where they lie in the area, since an answer that borrows from memory cannot say what memory holds afterwards.
+/// What is told. A file's bytes and a name are told by where they lie, since an answer that borrows from memory cannot say what memory holds afterwards.
 #[derive(Clone, Copy)]
 pub enum Answer {
     /// The owner capability granted.
     Granted(Capability),
     /// So many bytes of the area, from a start on.
     Part { start: u64, length: u64 },
+    /// The capability that a look-up or a walk found.
+    Found(Capability),
+    /// The name of the row at this place of all rows.
+    Name { row: usize },
     /// A length.
     Length(u64),
     /// It is done.

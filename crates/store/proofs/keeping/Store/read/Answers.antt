@@ -7,7 +7,7 @@ use Rattle.store.specs.Held.{kept}
 use Rattle.store.specs.Kept.{Kept}
 use Rattle.store.specs.Reading.{bytes_in}
 use Rattle.store.specs.Requests.{the_bytes}
-use Rattle.store.proofs.FileFacts.{read_outcome}
+use Rattle.store.proofs.Deciding.{read_outcome}
 use Rattle.store.proofs.keeping.Store.read.Goals as goal
 
 pub returns-in_err-file : goal.returns-in_err-file

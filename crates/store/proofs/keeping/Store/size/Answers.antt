@@ -6,7 +6,7 @@ use Rattle.store.specs.Changes.{told_as}
 use Rattle.store.specs.Held.{kept}
 use Rattle.store.specs.Kept.{Kept}
 use Rattle.store.specs.Requests.{the_size}
-use Rattle.store.proofs.FileFacts.{size_outcome}
+use Rattle.store.proofs.Deciding.{size_outcome}
 use Rattle.store.proofs.keeping.Store.size.Goals as goal
 
 pub returns-in_err-file : goal.returns-in_err-file
