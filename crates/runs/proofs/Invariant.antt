@@ -1,5 +1,5 @@
 -- What ties the history of a store to its state: the secret of each live object is that of the grant that stands for it.
-use Rattle.std.proofs.Common.{◌≡◌, ℕ, ◌^◌, ◌<◌, ◌≤◌, Bool, true, false, cond, eqb, ◌⊎◌, List, [], ◌∷◌, Some, None, Ok, Err, Option, Result, sym, refl, ap, ◌∙◌, subst, inl, inr, ⊎_elim, arith}
+use Rattle.std.proofs.Common.{◌≡◌, ℕ, ◌^◌, ◌<◌, ◌≤◌, Bool, true, false, cond, eqb, ◌⊎◌, List, [], ◌∷◌, ◌++◌, Some, None, Ok, Err, Option, Result, sym, refl, ap, ◌∙◌, subst, inl, inr, ⊎_elim, arith}
 use Rattle.std.specs.Option.{option_map}
 use Rattle.std.proofs.lemmas.Bool.{cases_eq, eq-eqb, eqb-true, ne_eqb, cond-true, cond-false}
 use Rattle.holder.specs.Bytes.{bytes_of}
@@ -9,11 +9,14 @@ use Rattle.secret.specs.Fitness.{is_fit}
 use Rattle.secret.specs.Owner.{owner_with}
 use Rattle.secret.specs.declared.secrets.Secret.{Secret}
 use Rattle.memory.specs.Soundness.{Content}
+use Rattle.memory.specs.declared.records.Row.{Row}
+use Rattle.rows.specs.Search.{searched}
+use Rattle.rows.specs.Changes.{row_of}
 use Rattle.admission.specs.Objects.{object_of}
 use Rattle.store.specs.Changes.{Change, settled}
 use Rattle.store.specs.Kept.{Kept, grant_of}
-use Rattle.store.specs.Requests.{Ask, create_file, create_directory, read, size, destroy, revoke, Told}
-use Rattle.runs.specs.Seen.{Seen, the_store, a_file, a_directory, Effect, changed_by, with_secret, becomes, seen_at}
+use Rattle.store.specs.Requests.{Ask, create_file, create_directory, read, size, look_up, walk, row, name, enter, remove, destroy, revoke, Told}
+use Rattle.runs.specs.Seen.{Seen, the_store, a_file, a_directory, Effect, changed_by, with_secret, with_rows, without_place, becomes, seen_at}
 use Rattle.store.specs.Served.{decided, scratch_after, InOrder}
 use Rattle.store.specs.declared.refusals.StoreRefusal.{StoreRefusal}
 use Rattle.refusal.proofs.ChainFacts.{never_ok}
@@ -53,7 +56,7 @@ changed_step seen' seen x new old there elsewhere before o = elim (cases_eq o x)
 ]
 
 -- a refusal leaves the state as it was
-refusal_leaves : (k : Kept) (m : Content) (scratch : List ℕ) (r : Result Change StoreRefusal) (e : StoreRefusal) → (settled k m scratch r).answer ≡ Err e
+pub refusal_leaves : (k : Kept) (m : Content) (scratch : List ℕ) (r : Result Change StoreRefusal) (e : StoreRefusal) → (settled k m scratch r).answer ≡ Err e
     → left (settled k m scratch r) ≡ record { kept = k; memory = m }
 refusal_leaves k m scratch (Ok change) e h = absurd (never_ok e change.told (sym h))
 refusal_leaves k m scratch (Err x) e h = refl
@@ -64,6 +67,12 @@ refusal_idle c (create_file bs secret scratch) e = refl
 refusal_idle c (create_directory secret scratch) e = refl
 refusal_idle c read e = refl
 refusal_idle c size e = refl
+refusal_idle c (look_up bs) e = refl
+refusal_idle c (walk path) e = refl
+refusal_idle c (row n) e = refl
+refusal_idle c (name o) e = refl
+refusal_idle c (enter bs entry masks) e = refl
+refusal_idle c (remove bs) e = refl
 refusal_idle c destroy e = refl
 refusal_idle c (revoke secret scratch) e = refl
 
@@ -125,6 +134,30 @@ module _ (n : ℕ) (f : ℕ → ℕ → ℕ) (port : Port) (first : Grant) (es :
     good = λ g e. idle_grants_nothing g (sym cons ∙ e);
   }
 
+  -- a directory with other rows has the same secret
+  same_secret : (change : List Row → List Row) (x : Option Seen) → option_map secret_in (option_map (with_rows change) x) ≡ option_map secret_in x
+  same_secret change None = refl
+  same_secret change (Some (the_store s)) = refl
+  same_secret change (Some (a_file s bs)) = refl
+  same_secret change (Some (a_directory s rows)) = refl
+
+  -- a request that changes the rows of the object presented
+  relisted_upheld : (ask : Ask) (told : Told) → consequence c ask (Ok told) ≡ neither → changed_by c told ≡ Some (object_of c)
+      → (change : List Row → List Row) → ((old : Option Seen) → becomes ask old ≡ option_map (with_rows change) old) → Effect k m c ask told → Upheld ask (Ok told)
+  relisted_upheld ask told cons changed change becoming effect = record {
+    secrets = λ q. unchanged q ∙ tied.secrets q ∙ ap (λ x. secret_granted (overturned x q (standing first es q))) (sym cons);
+    good = λ g e. idle_grants_nothing g (sym cons ∙ e);
+  }
+    where
+      unchanged : (q : ℕ) → seen_after ask q ≡ seen q
+      unchanged q = elim (cases_eq q (object_of c)) [
+        | inl e ↦
+            ap (seen_after ask) e
+            ∙ ap (option_map secret_in) (effect.there (object_of c) changed ∙ becoming (seen_at k m (object_of c)))
+            ∙ same_secret change (seen_at k m (object_of c)) ∙ ap seen (sym e)
+        | inr d ↦ ap (option_map secret_in) (effect.elsewhere q (λ e. d (let same : q ≡ object_of c = cc in same)))
+      ]
+
   -- a request that ends the object presented
   ended_upheld : (ask : Ask) (told : Told) → consequence c ask (Ok told) ≡ ends (λ q. eqb q (object_of c)) → changed_by c told ≡ Some (object_of c)
       → ((old : Option Seen) → becomes ask old ≡ None) → Effect k m c ask told → Upheld ask (Ok told)
@@ -150,6 +183,14 @@ module _ (n : ℕ) (f : ℕ → ℕ → ℕ) (port : Port) (first : Grant) (es :
   answer_upheld (create_directory secret scratch) told tells effect = granted_upheld (create_directory secret scratch) told secret tells.0 tells.1 refl effect refl
   answer_upheld read told tells effect = told_upheld read told refl (ap (changed_by c) tells.1) effect
   answer_upheld size told tells effect = told_upheld size told refl (ap (changed_by c) tells.1) effect
+  answer_upheld (look_up bs) told tells effect = told_upheld (look_up bs) told refl (ap (changed_by c) tells.1.0) effect
+  answer_upheld (walk path) told tells effect = told_upheld (walk path) told refl (ap (changed_by c) tells.1.0) effect
+  answer_upheld (row n) told tells effect = told_upheld (row n) told refl (ap (changed_by c) tells.1) effect
+  answer_upheld (name o) told tells effect = told_upheld (name o) told refl (ap (changed_by c) tells.1) effect
+  answer_upheld (enter bs entry masks) told tells effect =
+      relisted_upheld (enter bs entry masks) told refl (ap (changed_by c) tells.0) (λ rows. rows ++ row_of bs entry masks ∷ []) (λ old. refl) effect
+  answer_upheld (remove bs) told tells effect =
+      relisted_upheld (remove bs) told refl (ap (changed_by c) tells) (λ rows. without_place (searched bs rows) rows) (λ old. refl) effect
   answer_upheld destroy told tells effect = ended_upheld destroy told refl (ap (changed_by c) tells) (λ old. refl) effect
   answer_upheld (revoke secret scratch) told tells effect =
       granted_upheld (revoke secret scratch) told secret (object_of c) tells.1 refl effect (secret_anew secret tells.0.0 (seen_at k m (object_of c)) tells.0.1)

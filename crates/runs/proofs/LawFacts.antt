@@ -1,5 +1,5 @@
 -- The law of runs, from what ties history and state.
-use Rattle.std.proofs.Common.{◌≡◌, ℕ, ◌-◌, ◌<◌, Bool, true, eqb, List, [], is_err, Some, None, Ok, Option, Result, sym, refl, ap, ◌∙◌, subst, arith}
+use Rattle.std.proofs.Common.{◌≡◌, ℕ, ◌-◌, ◌<◌, true, eqb, List, [], is_err, Some, None, Ok, Option, Result, sym, refl, ap, ◌∙◌, subst, arith}
 use Rattle.std.proofs.lemmas.Bool.{eq-eqb, eqb-true}
 use Rattle.refusal.specs.Chains.{unless, and_then, refused_as}
 use Rattle.family.specs.Commuting.{Commuting}
@@ -8,7 +8,7 @@ use Rattle.family.specs.Rights.{has, missing}
 use Rattle.family.specs.Thin.{thin}
 use Rattle.family.proofs.ThinFacts.{thin_like}
 use Rattle.holder.specs.Bytes.{number, bytes_of}
-use Rattle.holder.specs.Dropping.{check_number}
+use Rattle.holder.specs.Dropping.{check_number, thinned}
 use Rattle.holder.specs.Laws.{Genuine}
 use Rattle.holder.specs.Layout.{written}
 use Rattle.holder.specs.declared.capability.Capability.{Capability}
@@ -20,58 +20,72 @@ use Rattle.secret.specs.declared.secrets.Secret.{Secret}
 use Rattle.secret.proofs.AcceptFacts.{accepted_plain}
 use Rattle.secret.proofs.FitnessFacts.{decides_fit}
 use Rattle.admission.specs.Admission.{permitted}
-use Rattle.admission.specs.Needs.{kind_fits, right_asked}
 use Rattle.admission.specs.Objects.{located, secret_of, object_of}
 use Rattle.admission.specs.declared.denials.Denial.{Denial}
-use Rattle.admission.specs.declared.denials.Denial.TheVariants.{WrongKind, RightMissing}
-use Rattle.admission.specs.declared.requests.Asking.{Asking}
-use Rattle.admission.specs.declared.requests.Asking.TheVariants.{CreateFile, CreateDirectory, Read, Size, Destroy, Revoke}
 use Rattle.admission.specs.declared.objects.Target.{Target}
-use Rattle.store.specs.Changes.{Outcome, settled}
+use Rattle.store.specs.Changes.{Change, only_told, settled}
 use Rattle.store.specs.Kept.{Kept}
-use Rattle.store.specs.Requests.{Ask, read, Told, asking}
+use Rattle.rows.specs.Paths.{names_in}
+use Rattle.store.specs.LookingUp.{looked_up, walked_on}
+use Rattle.store.specs.Requests.{Ask, create_file, create_directory, read, size, look_up, walk, row, name, enter, remove, destroy, revoke, Told, found, asking, form_of, first_place}
 use Rattle.store.specs.Served.{attempted, carried, decided, entered, fitting, scratch_after, sound_for}
+use Rattle.store.specs.declared.refusals.StoreRefusal.{StoreRefusal}
 use Rattle.store.specs.declared.refusals.StoreRefusal.TheVariants.{WrongSizes, UnsoundMemory, Denied}
-use Rattle.refusal.proofs.ChainFacts.{unless_ok, and_then_ok, refused_as_ok}
+use Rattle.refusal.proofs.ChainFacts.{same_ok, unless_ok, and_then_ok, refused_as_ok}
 use Rattle.runs.specs.Acceptance.{Accepted}
 use Rattle.runs.specs.Descent.{Descends}
 use Rattle.runs.specs.Grants.{Grant, Granted, Stands, object_granted, standing}
-use Rattle.runs.specs.History.{State, Call, Event, after, history, answer_in}
-use Rattle.runs.specs.Law.{AcceptanceShows, EqualBytes, AcceptedExactly, MoreRights, LawOfRuns}
+use Rattle.runs.specs.History.{State, Call, Event, after, history}
+use Rattle.runs.specs.Law.{Alike, FoundAlike, FewerRights, AcceptanceShows, EqualBytes, AcceptedExactly, MoreRights, LawOfRuns}
 use Rattle.runs.proofs.Invariant.{Tied, GoodGrant, secret_granted, standing_granted, tied_run}
 use Rattle.runs.proofs.SecretFacts.{Passes, judged_passes, passes_judged, is_ok, secret_located, secret_target}
-use Rattle.runs.proofs.Shapes.{Shape, same_shape, descends_shape}
+use Rattle.runs.proofs.Looks.{LawfulStore}
+use Rattle.runs.proofs.LooksRun.{looks_run}
+use Rattle.runs.proofs.Rights.{more_permitted}
+use Rattle.runs.proofs.Shapes.{Looks, Shape, same_shape, descends_shape}
+use Rattle.runs.proofs.Traced.{RowsBrought}
+use Rattle.runs.proofs.Wider.{Thinner, looked_wider, walked_on_wider}
 use Rattle.runs.proofs.TellFacts.{answered}
-use Rattle.runs.proofs.Verdicts.{judged_in, full_shows, reaching_shows}
+use Rattle.runs.proofs.Lateness.{judged_in}
+use Rattle.runs.proofs.Verdicts.{full_shows, reaching_shows}
 
 -- the grant of a secret that is granted
 grant_of_lem : (o : Option Grant) (s : Secret) → secret_granted o ≡ Some s → (g : Grant) × ((o ≡ Some g) × (g.secret ≡ s))
 grant_of_lem None s e = absurd (let z : ◌≡◌ {A = ℕ} 0 1 = cc in omega arith)
 grant_of_lem (Some g) s e = (g, (refl, cc))
 
-module _ (n : ℕ) (f : ℕ → ℕ → ℕ) (family : Commuting n f) (port : Port) (first : Grant) (es : List Event) (s : State) (tied : Tied n f port first es s) where
+module _ (n : ℕ) (f : ℕ → ℕ → ℕ) (family : Commuting n f) (port : Port) (first : Grant) (es : List Event) (s : State) (tied : Tied n f port first es s) (looks : Looks n f es) where
   abbrev k : Kept
   k = s.kept
 
+  -- a standing grant has a secret below n
+  standing_fit : (o : ℕ) (g : Grant) → standing first es o ≡ Some g → Fit n f g.secret.value
+  standing_fit o g e = (decides_fit n f g.secret.value).0 (tied.good g (standing_granted first es o g e).0).fit
+
+  -- the store is a lawful one
+  lawful : LawfulStore k
+  lawful =
+      let own = grant_of_lem (standing first es 0) k.own (sym (tied.secrets 0)) in
+      record {
+        family = subst (λ g. Commuting k.modulus g) (sym tied.function) (subst (λ z. Commuting z f) (sym tied.modulus) family);
+        own_below = subst (λ z. k.own.value < z) (sym tied.modulus) (subst (λ x. x.value < n) own.1.1 (standing_fit 0 own.0 own.1.0).below);
+      }
+
   shows : AcceptanceShows s
   shows = record {
-    one_verdict = λ c a b x y. reaching_shows k s.memory tied.order c a x ∙ sym (reaching_shows k s.memory tied.order c b y);
-    some_verdict = λ c. (read, (full_shows k s.memory tied.order c read refl).0);
+    one_verdict = λ c a b x y. reaching_shows k s.memory tied.order lawful c a x ∙ sym (reaching_shows k s.memory tied.order lawful c b y);
+    some_verdict = λ c. (read, (full_shows k s.memory tied.order lawful c read refl tt refl).0);
   }
 
   -- accepted is passing the judgement
   accepted_passes : (c : Capability) → Accepted s c → (t : Target) × Passes k s.memory c t
   accepted_passes c accepts =
-      let shown = full_shows k s.memory tied.order c read refl in
+      let shown = full_shows k s.memory tied.order lawful c read refl tt refl in
       let ok = is_ok (judged_in k s.memory c) (sym shown.1 ∙ accepts read shown.0) in
       (ok.0, judged_passes k s.memory c ok.0 ok.1)
 
   passes_accepted : (c : Capability) (t : Target) → Passes k s.memory c t → Accepted s c
-  passes_accepted c t p = λ ask reaches. reaching_shows k s.memory tied.order c ask reaches ∙ ap is_err (passes_judged k s.memory c t p)
-
-  -- a standing grant has a secret below n
-  standing_fit : (o : ℕ) (g : Grant) → standing first es o ≡ Some g → Fit n f g.secret.value
-  standing_fit o g e = (decides_fit n f g.secret.value).0 (tied.good g (standing_granted first es o g e).0).fit
+  passes_accepted c t p = λ ask reaches. reaching_shows k s.memory tied.order lawful c ask reaches ∙ ap is_err (passes_judged k s.memory c t p)
 
   -- accepting a check by a secret below n is its being genuine
   accepted_genuine : (c : Capability) (v : ℕ) → v < n → accepted k.modulus k.function v c.rights.bits (check_number c) ≡ eqb (check_number c) (thin f v (missing c.rights.bits))
@@ -127,7 +141,7 @@ module _ (n : ℕ) (f : ℕ → ℕ → ℕ) (family : Commuting n f) (port : Po
       let fit = (decides_fit n f g.secret.value).0 good.fit in
       let object : Object = record { bytes = bytes_of 3 good.object } in
       subst (λ x. Shape f g.secret.value x c) (sym good.owner)
-      (descends_shape n f family port object g.secret.value fit.below es c (subst (λ x. Descends n f es x c) good.owner from))
+      (descends_shape n f family port object g.secret.value fit.below es looks c (subst (λ x. Descends n f es x c) good.owner from))
 
   same_sixteen_bytes : (g : Grant) → Granted first es g → (c d : Capability) → Descends n f es g.capability c → Descends n f es g.capability d
       → c.rights.bits ≡ d.rights.bits → written c ≡ written d
@@ -142,31 +156,109 @@ module _ (n : ℕ) (f : ℕ → ℕ → ℕ) (family : Commuting n f) (port : Po
       when c (ap (λ p. p.bytes) (shape.port ∙ ap (λ x. x.port) good.owner ∙ sym tied.port_same)) g
       (ap (λ x. standing first es (number x.bytes)) shape.object ∙ stands) shape.genuine
 
-  -- the right that a request asks for is one of the eight
-  asked_right : (a : Asking) → right_asked a < 8
-  asked_right CreateFile = omega arith
-  asked_right CreateDirectory = omega arith
-  asked_right Read = omega arith
-  asked_right Size = omega arith
-  asked_right Destroy = omega arith
-  asked_right Revoke = omega arith
+  -- what is carried out under fewer rights is carried out under more: the same, but that look-ups and walks may find more rights
+  record CarriedAlike (ask : Ask) (c d : Capability) (t : Target) (change : Change) : Type 0 where
+    change' : Change
+    carries : carried k s.memory d.rights.bits ask t ≡ Ok change'
+    alike : Alike n f ask change.told change'.told
+    kept : change'.kept ≡ change.kept
+    memory : change'.memory ≡ change.memory
 
-  -- an answered request had the right that it asks for
-  had_right : (c : Capability) (ask : Ask) (told : Told) (t : Target) → judged_in k s.memory c ≡ Ok t → answer_in s c ask ≡ Ok told
-      → has c.rights.bits (right_asked (asking ask)) ≡ true
-  had_right c ask told t judged e =
+  found_alike : (x y : Capability) → Thinner k s.memory tied.order lawful x y → FoundAlike n f (found x) (found y)
+  found_alike x y w = record {
+    first = x;
+    second = y;
+    told_first = refl;
+    told_second = refl;
+    thins = ap (λ z. thinned z f y x.rights.bits) (sym tied.modulus) ∙ ap (λ g. thinned k.modulus g y x.rights.bits) (sym tied.function) ∙ w.thins;
+  }
+
+  same_carried : (ask : Ask) (c d : Capability) (t : Target) (change : Change) → carried k s.memory d.rights.bits ask t ≡ carried k s.memory c.rights.bits ask t
+      → Alike n f ask change.told change.told → carried k s.memory c.rights.bits ask t ≡ Ok change → CarriedAlike ask c d t change
+  same_carried ask c d t change same alike e = record { change' = change; carries = same ∙ e; alike = alike; kept = refl; memory = refl }
+
+  found_carried : (ask : Ask) (c d : Capability) (t : Target) (change : Change) (decide : ℕ → Result Capability StoreRefusal)
+      → ((rights : ℕ) → carried k s.memory rights ask t ≡ and_then (decide rights) (λ x. Ok (only_told k s.memory (found x))))
+      → ((told more : Told) → FoundAlike n f told more → Alike n f ask told more)
+      → ((x : Capability) → decide c.rights.bits ≡ Ok x → (y : Capability) × ((decide d.rights.bits ≡ Ok y) × Thinner k s.memory tied.order lawful x y))
+      → carried k s.memory c.rights.bits ask t ≡ Ok change → CarriedAlike ask c d t change
+  found_carried ask c d t change decide is alike wider e =
       let m = s.memory in
-      let made = answered k m (scratch_after k m ask) (decided k m c ask) told e in
-      let change = made.0 in
-      let fits = unless_ok (fitting k m ask) WrongSizes (attempted k m c ask) change made.1.0 in
-      let enters = and_then_ok (entered k m (asking ask) c) (λ x. carried k m ask x) change fits.1 in
-      let sound = unless_ok (sound_for k m) UnsoundMemory (refused_as Denied (and_then (judged_in k m c) (λ x. permitted (asking ask) x c.rights.bits))) enters.0 enters.1.0 in
-      let admits = refused_as_ok Denied (and_then (judged_in k m c) (λ x. permitted (asking ask) x c.rights.bits)) enters.0 sound.1 in
-      let permits : permitted (asking ask) t c.rights.bits ≡ Ok enters.0 = sym (ap (λ x. and_then x (λ y. permitted (asking ask) y c.rights.bits)) judged) ∙ admits in
-      let kind = unless_ok (kind_fits (asking ask) t) WrongKind (unless (has c.rights.bits (right_asked (asking ask))) RightMissing (Ok t)) enters.0 permits in
-      (unless_ok (has c.rights.bits (right_asked (asking ask))) RightMissing (Ok t) enters.0 kind.1).0
+      let made = and_then_ok (decide c.rights.bits) (λ x. Ok (only_told k m (found x))) change (sym (is c.rights.bits) ∙ e) in
+      let more = wider made.0 made.1.0 in
+      let same : only_told k m (found made.0) ≡ change = same_ok made.1.1 in
+      record {
+        change' = only_told k m (found more.0);
+        carries = is d.rights.bits ∙ ap (λ r. and_then r (λ x. Ok (only_told k m (found x)))) more.1.0;
+        alike = subst (λ x. Alike n f ask x.told (found more.0)) same (alike (found made.0) (found more.0) (found_alike made.0 more.0 more.1.1));
+        kept = ap (λ x. x.kept) same;
+        memory = ap (λ x. x.memory) same;
+      }
 
-  more_rights : MoreRights s
+  carried_alike : (ask : Ask) (c d : Capability) (t : Target) (change : Change) → FewerRights c d → carried k s.memory c.rights.bits ask t ≡ Ok change
+      → CarriedAlike ask c d t change
+  carried_alike (create_file bs secret scratch) c d t change fewer e = same_carried (create_file bs secret scratch) c d t change refl refl e
+  carried_alike (create_directory secret scratch) c d t change fewer e = same_carried (create_directory secret scratch) c d t change refl refl e
+  carried_alike read c d t change fewer e = same_carried read c d t change refl refl e
+  carried_alike size c d t change fewer e = same_carried size c d t change refl refl e
+  carried_alike (look_up bs) c d t change fewer e =
+      found_carried (look_up bs) c d t change (λ rights. looked_up k s.memory rights bs 0 t) (λ rights. refl) (λ told more h. h)
+      (λ x q. looked_wider k s.memory tied.order lawful c d bs 0 t x fewer q) e
+  carried_alike (walk path) c d t change fewer e =
+      found_carried (walk path) c d t change (λ rights. walked_on k s.memory rights (names_in path) 1 t) (λ rights. refl) (λ told more h. h)
+      (λ x q. walked_on_wider k s.memory tied.order lawful (names_in path) c d 1 t x fewer q) e
+  carried_alike (row i) c d t change fewer e = same_carried (row i) c d t change refl refl e
+  carried_alike (name o) c d t change fewer e = same_carried (name o) c d t change refl refl e
+  carried_alike (enter bs entry masks) c d t change fewer e = same_carried (enter bs entry masks) c d t change refl refl e
+  carried_alike (remove bs) c d t change fewer e = same_carried (remove bs) c d t change refl refl e
+  carried_alike destroy c d t change fewer e = same_carried destroy c d t change refl refl e
+  carried_alike (revoke secret scratch) c d t change fewer e = same_carried (revoke secret scratch) c d t change refl refl e
+
+  -- an answered request passed its checks, and was carried out at the object that its capability is judged to name
+  record WentThrough (c : Capability) (ask : Ask) (t : Target) (change : Change) : Type 0 where
+    sizes : fitting k s.memory ask ≡ true
+    sound : sound_for k s.memory ≡ true
+    unit : Unit {0}
+    formed : form_of ask ≡ Ok unit
+    object : Target
+    permits : permitted (asking ask) t c.rights.bits ≡ Ok object
+    carries : carried k s.memory c.rights.bits ask object ≡ Ok change
+
+  went_through : (c : Capability) (ask : Ask) (t : Target) (change : Change) → judged_in k s.memory c ≡ Ok t → decided k s.memory c ask ≡ Ok change
+      → WentThrough c ask t change
+  went_through c ask t change judged e =
+      let m = s.memory in
+      let told : Denial → StoreRefusal = λ d. Denied d (first_place ask) in
+      let fits = unless_ok (fitting k m ask) WrongSizes (attempted k m c ask) change e in
+      let enters = and_then_ok (entered k m (asking ask) (form_of ask) (first_place ask) c) (carried k m c.rights.bits ask) change fits.1 in
+      let sound = unless_ok (sound_for k m) UnsoundMemory (and_then (form_of ask) (λ _. refused_as told (and_then (judged_in k m c) (λ x. permitted (asking ask) x c.rights.bits)))) enters.0 enters.1.0 in
+      let formed = and_then_ok (form_of ask) _ enters.0 sound.1 in
+      let admits = refused_as_ok told (and_then (judged_in k m c) (λ x. permitted (asking ask) x c.rights.bits)) enters.0 formed.1.1 in
+      record {
+        sizes = fits.0;
+        sound = sound.0;
+        unit = formed.0;
+        formed = formed.1.0;
+        object = enters.0;
+        permits = sym (ap (λ x. and_then x (λ y. permitted (asking ask) y c.rights.bits)) judged) ∙ admits;
+        carries = enters.1.1;
+      }
+
+  -- and whatever passes them is decided so
+  goes_through : (d : Capability) (ask : Ask) (t object : Target) (u : Unit {0}) (change : Change) → judged_in k s.memory d ≡ Ok t → fitting k s.memory ask ≡ true
+      → sound_for k s.memory ≡ true → form_of ask ≡ Ok u → permitted (asking ask) t d.rights.bits ≡ Ok object → carried k s.memory d.rights.bits ask object ≡ Ok change
+      → decided k s.memory d ask ≡ Ok change
+  goes_through d ask t object u change judged sizes sound formed permits carries =
+      let m = s.memory in
+      let told : Denial → StoreRefusal = λ r. Denied r (first_place ask) in
+      let onward : Result Target StoreRefusal → Result Change StoreRefusal = λ r. and_then r (carried k m d.rights.bits ask) in
+      ap (λ b. unless b WrongSizes (attempted k m d ask)) sizes
+      ∙ ap (λ b. onward (unless b UnsoundMemory (and_then (form_of ask) (λ _. refused_as told (and_then (judged_in k m d) (λ x. permitted (asking ask) x d.rights.bits)))))) sound
+      ∙ ap (λ r. onward (and_then r (λ _. refused_as told (and_then (judged_in k m d) (λ x. permitted (asking ask) x d.rights.bits))))) formed
+      ∙ ap (λ r. onward (refused_as told (and_then r (λ x. permitted (asking ask) x d.rights.bits)))) judged
+      ∙ ap (λ r. onward (refused_as told r)) permits ∙ carries
+
+  more_rights : MoreRights n f s
   more_rights c d x y objects fewer ask told e =
       let m = s.memory in
       let p = accepted_passes c x in
@@ -175,40 +267,50 @@ module _ (n : ℕ) (f : ℕ → ℕ → ℕ) (family : Commuting n f) (port : Po
       let same : q.0 ≡ t = (let u = p.1.object in let w = ap (located m) objects ∙ q.1.object in cc) in
       let jc = passes_judged k m c t p.1 in
       let jd : judged_in k m d ≡ Ok t = passes_judged k m d q.0 q.1 ∙ ap Ok same in
-      let right = right_asked (asking ask) in
-      let hc = had_right c ask told t jc e in
-      let hd = fewer right (asked_right (asking ask)) hc in
-      let whole : Result Target Denial → Outcome = λ r.
-      settled k m (scratch_after k m ask) (unless (fitting k m ask) WrongSizes (and_then (unless (sound_for k m) UnsoundMemory (refused_as Denied r)) (λ z. carried k m ask z))) in
-      let permit : Bool → Result Target Denial = λ b. unless (kind_fits (asking ask) t) WrongKind (unless b RightMissing (Ok t)) in
-      ap (λ r. whole (and_then r (λ z. permitted (asking ask) z d.rights.bits))) jd
-      ∙ ap (λ b. whole (permit b)) (hd ∙ sym hc)
-      ∙ sym (ap (λ r. whole (and_then r (λ z. permitted (asking ask) z c.rights.bits))) jc)
+      let made = answered k m (scratch_after k m ask) (decided k m c ask) told e in
+      let went = went_through c ask t made.0 jc made.1.0 in
+      let more = carried_alike ask c d went.object made.0 fewer went.carries in
+      let decides : decided k m d ask ≡ Ok more.change' =
+      goes_through d ask t went.object went.unit more.change' jd went.sizes went.sound went.formed
+      (more_permitted c d fewer (asking ask) t went.object went.permits) more.carries in
+      let first = ap (settled k m (scratch_after k m ask)) made.1.0 in
+      let second = ap (settled k m (scratch_after k m ask)) decides in
+      record {
+        more = more.change'.told;
+        answers = ap (λ o. o.answer) second;
+        alike = subst (λ z. Alike n f ask z more.change'.told) made.1.1 more.alike;
+        kept = ap (λ o. o.kept) second ∙ more.kept ∙ sym (ap (λ o. o.kept) first);
+        memory = ap (λ o. o.memory) second ∙ more.memory ∙ sym (ap (λ o. o.memory) first);
+        scratch = ap (λ o. o.scratch) second ∙ sym (ap (λ o. o.scratch) first);
+      }
 
 -- over every run from a tied beginning
-module _ (n : ℕ) (f : ℕ → ℕ → ℕ) (family : Commuting n f) (first : Grant) (start : State) (tied : Tied n f start.kept.port first [] start) where
+module _ (n : ℕ) (f : ℕ → ℕ → ℕ) (family : Commuting n f) (first : Grant) (start : State) (tied : Tied n f start.kept.port first [] start) (brought : RowsBrought [] start) where
   run : (calls : List Call) → Tied n f start.kept.port first (history start calls) (after start calls)
   run = tied_run n f start.kept.port first start tied
+
+  found_run : (calls : List Call) → Looks n f (history start calls)
+  found_run calls = looks_run n f start.kept.port first start tied brought calls
 
   module _ (calls : List Call) where
     equal_bytes : EqualBytes n f first start calls
     equal_bytes = record {
-      same_sixteen_bytes = same_sixteen_bytes n f family start.kept.port first (history start calls) (after start calls) (run calls);
-      accepted_while_standing = while_standing n f family start.kept.port first (history start calls) (after start calls) (run calls);
+      same_sixteen_bytes = same_sixteen_bytes n f family start.kept.port first (history start calls) (after start calls) (run calls) (found_run calls);
+      accepted_while_standing = while_standing n f family start.kept.port first (history start calls) (after start calls) (run calls) (found_run calls);
     }
 
     accepted_exactly : AcceptedExactly f first start calls
     accepted_exactly = record {
-      only_when = λ c ports x. only_when n f family start.kept.port first (history start calls) (after start calls) (run calls) c x;
-      when = λ c ports. when n f family start.kept.port first (history start calls) (after start calls) (run calls) c
+      only_when = λ c ports x. only_when n f family start.kept.port first (history start calls) (after start calls) (run calls) (found_run calls) c x;
+      when = λ c ports. when n f family start.kept.port first (history start calls) (after start calls) (run calls) (found_run calls) c
           (ports ∙ ap (λ p. p.bytes) (sym (run calls).port_same));
-      one_rights_byte = one_rights_byte n f family start.kept.port first (history start calls) (after start calls) (run calls);
+      one_rights_byte = one_rights_byte n f family start.kept.port first (history start calls) (after start calls) (run calls) (found_run calls);
     }
 
   pub law_of_runs : LawOfRuns n f first start
   law_of_runs = record {
-    acceptance_shows = λ calls. shows n f family start.kept.port first (history start calls) (after start calls) (run calls);
+    acceptance_shows = λ calls. shows n f family start.kept.port first (history start calls) (after start calls) (run calls) (found_run calls);
     equal_rights_equal_bytes = equal_bytes;
     accepted_exactly_when = accepted_exactly;
-    more_rights_same_answer = λ calls. more_rights n f family start.kept.port first (history start calls) (after start calls) (run calls);
+    more_rights_same_answer = λ calls. more_rights n f family start.kept.port first (history start calls) (after start calls) (run calls) (found_run calls);
   }

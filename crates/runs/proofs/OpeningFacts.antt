@@ -22,7 +22,7 @@ use Rattle.store.specs.Held.{kept, opened_as}
 use Rattle.store.specs.Kept.{Kept, grant_of}
 use Rattle.store.specs.Opened.{new_store, openable, founding, opening}
 use Rattle.store.specs.Requests.{granted, full_scratch}
-use Rattle.runs.specs.Seen.{seen_as}
+use Rattle.runs.specs.Seen.{seen_as, seen_at}
 use Rattle.store.specs.Sizes.{lawful_sizes}
 use Rattle.store.specs.declared.opening.Opened.{Opened}
 use Rattle.store.specs.declared.refusals.StoreRefusal.{StoreRefusal}
@@ -35,6 +35,7 @@ use Rattle.runs.specs.Law.{LawOfRuns}
 use Rattle.runs.specs.Opening.{first_grant, start_state}
 use Rattle.runs.proofs.Invariant.{Tied, GoodGrant, secret_granted}
 use Rattle.runs.proofs.LawFacts.{law_of_runs}
+use Rattle.runs.proofs.Traced.{RowsBrought}
 use Rattle.runs.proofs.SecretFacts.{secret_in, secret_seen}
 
 -- every record of a wiped table is the zero record
@@ -112,6 +113,13 @@ module _ (n : ℕ) (f : ℕ → ℕ → ℕ) (port : Port) (secret : Secret) (m 
     good = λ g e. subst (GoodGrant n f port) (sym e) (record { object = 0; narrow = omega arith; owner = refl; fit = fit });
   }
 
+  -- no row was entered yet
+  opened_brought : RowsBrought [] start
+  opened_brought o secret rows e = elim (cases_eq o 0) [
+    | inl z ↦ absurd (let here = sym (ap (seen_at k (wiped m)) z) ∙ e in let q : ◌≡◌ {A = ℕ} 0 1 = cc in omega arith)
+    | inr some ↦ absurd (let none = sym (ap (option_map (seen_as k (wiped m))) (none_located o some)) ∙ e in let q : ◌≡◌ {A = ℕ} 0 1 = cc in omega arith)
+  ]
+
 -- whatever was opened, its runs keep the law
 module _ (n : ℕ) (f : ℕ → ℕ → ℕ) (family : Commuting n f) (port : Port) (secret : Secret) (m : Content) (scratch : List ℕ) where
   opened_law : (owner : Capability) (k : Kept) (m' : Content) → Ok (change (granted owner) k m') ≡ opening n f port secret m scratch
@@ -124,7 +132,8 @@ module _ (n : ℕ) (f : ℕ → ℕ → ℕ) (family : Commuting n f) (port : Po
       let same : change (granted (grant_of new 0 secret)) new (wiped m) ≡ done = same_ok fit.1 in
       let told = ap (λ x. x.told) same in
       let lawful = (and_parts (lawful_sizes m) (full_scratch scratch) sizes.0).0 in
-      let law = law_of_runs n f family (first n f port secret m lawful fit.0) (start n f port secret m lawful fit.0) (opened_tied n f port secret m lawful fit.0) in
+      let law = law_of_runs n f family (first n f port secret m lawful fit.0) (start n f port secret m lawful fit.0) (opened_tied n f port secret m lawful fit.0)
+      (opened_brought n f port secret m lawful fit.0) in
       let owners : grant_of new 0 secret ≡ owner = cc in
       subst (λ x. LawOfRuns n f (record { capability = x; secret = secret }) (record { kept = k; memory = m' })) owners
       (subst (λ x. LawOfRuns n f (record { capability = grant_of new 0 secret; secret = secret }) (record { kept = x.kept; memory = x.memory })) same law)

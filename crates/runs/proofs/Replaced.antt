@@ -1,16 +1,20 @@
 -- Memory stays in order where one record is replaced by another.
-use Rattle.std.proofs.Common.{◌≡◌, ℕ, zero, suc, ◌+◌, ◌<◌, ◌≤◌, true, List, [], ◌∷◌, length, take, drop, set, Some, refl, ◌∙◌, subst}
+use Rattle.std.proofs.Common.{◌≡◌, ℕ, zero, suc, ◌+◌, ◌*◌, ◌<◌, ◌≤◌, true, List, [], ◌∷◌, length, take, drop, set, Some, sym, refl, ap, ◌∙◌, subst, inl, inr, arith}
 use Rattle.std.specs.List.{AllByRecursion, slice_get}
 use Rattle.std.proofs.ByRecursion.{All-set}
-use Rattle.std.proofs.lemmas.List.{length-set}
+use Rattle.std.proofs.lemmas.List.{length-set, drop-drop}
+use Rattle.std.proofs.lemmas.Bool.{cases_eq}
+use Rattle.table.proofs.Reading.{nth-set_same, nth-set_other}
 use Rattle.memory.specs.Soundness.{Content}
 use Rattle.memory.specs.Words.{EachTwo, RowsSound, DirectoriesSound, Sound}
 use Rattle.memory.specs.declared.records.DirectoryRecord.{DirectoryRecord}
 use Rattle.memory.specs.declared.records.FileRecord.{FileRecord}
 use Rattle.memory.specs.declared.records.Row.{Row}
 use Rattle.memory.proofs.SoundFacts.{sound_decides}
-use Rattle.store.specs.Served.{InOrder}
 use Rattle.store.specs.Kept.{Kept}
+use Rattle.store.specs.Listing.{rows_of}
+use Rattle.store.specs.Reading.{part_of}
+use Rattle.store.specs.Served.{InOrder}
 use Rattle.store.specs.Sizes.{sizes_agree}
 use Rattle.store.proofs.Apart.{all_nth, FilesApart, whole}
 
@@ -30,24 +34,38 @@ each_two_set Q turn (x ∷ xs) (suc i) old new e steps each = (
   each_two_set Q turn xs i old new e steps.1 each.1,
 )
 
--- the rows of directories stay sound, where those of the new one are sound if those of the old one are
+-- past the first sixteen rows
+sixteen_on : (q : ℕ) (rows : List Row) → drop (16 * q) (drop 16 rows) ≡ drop (16 * suc q) rows
+sixteen_on q rows = drop-drop (16 * q) 16 rows ∙ ap (λ i. drop i rows) (omega arith)
+
+-- soundness of the rows of directories, place by place
 module _ (n : ℕ) (port : List ℕ) where
-  abbrev pub RowsIn : DirectoryRecord → List Row → Type 0
+  abbrev RowsIn : DirectoryRecord → List Row → Type 0
   RowsIn d rows = d.live ≡ true → RowsSound n port (take d.count rows)
 
-  directories_set : (ds : List DirectoryRecord) (rows : List Row) (i : ℕ) (old new : DirectoryRecord) → slice_get ds i ≡ Some old
-      → ((rows : List Row) → RowsIn old rows → RowsIn new rows) → DirectoriesSound n port ds rows → DirectoriesSound n port (set ds i new) rows
-  directories_set [] rows i old new e step all = tt
-  directories_set (d ∷ ds) rows zero old new e step all =
-      let same : d ≡ old = cc in (step rows (subst (λ x. RowsIn x rows) same all.0), all.1)
-  directories_set (d ∷ ds) rows (suc i) old new e step all = (all.0, directories_set ds (drop 16 rows) i old new e step all.1)
+  rows_at : (ds : List DirectoryRecord) (rows : List Row) → DirectoriesSound n port ds rows
+      → (q : ℕ) (d : DirectoryRecord) → slice_get ds q ≡ Some d → RowsIn d (drop (16 * q) rows)
+  rows_at [] rows all q d e = absurd (let z : ◌≡◌ {A = ℕ} 0 1 = cc in omega arith)
+  rows_at (x ∷ ds) rows all zero d e = subst (λ y. RowsIn y rows) (let s : x ≡ d = cc in s) all.0
+  rows_at (x ∷ ds) rows all (suc q) d e = subst (RowsIn d) (sixteen_on q rows) (rows_at ds (drop 16 rows) all.1 q d e)
 
--- a file replaced, with another area; a directory replaced
+  rows_from : (ds : List DirectoryRecord) (rows : List Row)
+      → ((q : ℕ) (d : DirectoryRecord) → slice_get ds q ≡ Some d → RowsIn d (drop (16 * q) rows)) → DirectoriesSound n port ds rows
+  rows_from [] rows each = tt
+  rows_from (x ∷ ds) rows each =
+      (each 0 x refl, rows_from ds (drop 16 rows) (λ q d e. subst (RowsIn d) (sym (sixteen_on q rows)) (each (suc q) d e)))
+
+-- the live directories but one have the rows that they had
+abbrev pub OthersStay : Content → ℕ → List Row → Type 0
+OthersStay m i rows =
+    (q : ℕ) (d : DirectoryRecord) → (q ≡ i → ⊥) → slice_get m.directories q ≡ Some d → d.live ≡ true → part_of (16 * q) d.count rows ≡ rows_of m q d
+
+-- a file replaced, with another area; a directory replaced, with other rows
 abbrev pub with_file : Content → ℕ → FileRecord → List ℕ → Content
 with_file m i new area = record { files = set m.files i new; directories = m.directories; rows = m.rows; area = area }
 
-abbrev pub with_directory : Content → ℕ → DirectoryRecord → Content
-with_directory m i new = record { files = m.files; directories = set m.directories i new; rows = m.rows; area = m.area }
+abbrev pub with_directory : Content → ℕ → DirectoryRecord → List Row → Content
+with_directory m i new rows = record { files = m.files; directories = set m.directories i new; rows = rows; area = m.area }
 
 module _ (k : Kept) (m : Content) (h : InOrder k m) where
   words : Sound k.modulus k.port.bytes m
@@ -75,17 +93,28 @@ module _ (k : Kept) (m : Content) (h : InOrder k m) where
         rows = words.rows;
       })
 
-  -- the new directory has a secret below the modulus and few rows, which are sound if those of the old one are
-  pub directory_replaced : (i : ℕ) (old new : DirectoryRecord) → slice_get m.directories i ≡ Some old
-      → (new.live ≡ true → new.secret.value < k.modulus) → new.count ≤ 16
-      → ((rows : List Row) → RowsIn k.modulus k.port.bytes old rows → RowsIn k.modulus k.port.bytes new rows)
-      → InOrder k (with_directory m i new)
-  directory_replaced i old new e below few step =
-      in_order (with_directory m i new) refl (length-set m.directories i new) refl refl (record {
+  -- the counted rows of a live directory are sound
+  pub rows_of_sound : (q : ℕ) (d : DirectoryRecord) → slice_get m.directories q ≡ Some d → d.live ≡ true → RowsSound k.modulus k.port.bytes (rows_of m q d)
+  rows_of_sound = rows_at k.modulus k.port.bytes m.directories m.rows words.rows
+
+  -- the new directory has a secret below the modulus and few rows, which are sound, and the others have the rows that they had
+  pub directory_replaced : (i : ℕ) (new : DirectoryRecord) (rows : List Row) → i < length m.directories → length rows ≡ length m.rows
+      → (new.live ≡ true → new.secret.value < k.modulus) → new.count ≤ 16 → OthersStay m i rows
+      → (new.live ≡ true → RowsSound k.modulus k.port.bytes (part_of (16 * i) new.count rows)) → InOrder k (with_directory m i new rows)
+  directory_replaced i new rows within same below few stay sound =
+      in_order (with_directory m i new rows) refl (length-set m.directories i new) same refl (record {
         file_secrets = words.file_secrets;
         directory_secrets = All-set _ m.directories i new below words.directory_secrets;
         within = words.within;
         apart = words.apart;
         counts = All-set _ m.directories i new few words.counts;
-        rows = directories_set k.modulus k.port.bytes m.directories m.rows i old new e step words.rows;
+        rows = rows_from k.modulus k.port.bytes (set m.directories i new) rows (λ q d at live. elim (cases_eq q i) [
+          | inl here ↦
+              let same : new ≡ d = let e = nth-set_same m.directories i new within in cc in
+              subst (λ j. RowsIn k.modulus k.port.bytes d (drop (16 * j) rows)) (sym here)
+              (subst (λ x. RowsIn k.modulus k.port.bytes x (drop (16 * i) rows)) same sound) live
+          | inr other ↦
+              let was : slice_get m.directories q ≡ Some d = sym (nth-set_other m.directories i q new other) ∙ at in
+              subst (RowsSound k.modulus k.port.bytes) (sym (stay q d other was live)) (rows_of_sound q d was live)
+        ]);
       })

@@ -17,7 +17,7 @@ use Rattle.admission.specs.declared.objects.Target.TheVariants.{Itself, File, Di
 use Rattle.store.specs.Kept.{Kept}
 use Rattle.runs.specs.Seen.{Seen, the_store, a_file, a_directory, seen_as, seen_at}
 use Rattle.refusal.proofs.ChainFacts.{unless_ok, given_ok, same_ok}
-use Rattle.runs.proofs.Verdicts.{judged_in}
+use Rattle.runs.proofs.Lateness.{judged_in}
 
 -- the secret of an object that is seen
 abbrev pub secret_in : Seen → Secret

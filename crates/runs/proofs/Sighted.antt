@@ -10,11 +10,12 @@ use Rattle.secret.specs.declared.secrets.Secret.{Secret}
 use Rattle.memory.specs.Soundness.{Content}
 use Rattle.memory.specs.declared.records.FileRecord.{FileRecord}
 use Rattle.memory.specs.declared.records.DirectoryRecord.{DirectoryRecord}
+use Rattle.memory.specs.declared.records.Row.{Row}
 use Rattle.admission.specs.declared.objects.Target.TheVariants.{File, Directory}
 use Rattle.store.specs.Kept.{Kept, with_own}
 use Rattle.store.specs.Reading.{part_of, bytes_in}
-use Rattle.runs.specs.Seen.{Seen, the_store, a_file, seen_as, seen_at}
-use Rattle.runs.proofs.Replaced.{with_file, with_directory}
+use Rattle.runs.specs.Seen.{Seen, the_store, a_file, a_directory, seen_as, seen_at}
+use Rattle.runs.proofs.Replaced.{OthersStay, with_file, with_directory}
 use Rattle.store.proofs.Standing.{by_number, located_file, located_directory}
 
 -- what is seen of the files and of the directories, by place
@@ -106,15 +107,18 @@ module _ (k k' : Kept) (m : Content) (own : k'.own ≡ k.own) (p : ℕ) where
             (λ q other. refl);
       }
 
-  -- a directory record changes
-  pub directory_turned : (x : DirectoryRecord) → p < length m.directories
-      → Turned k k' m (with_directory m p x) (1 + length m.files + p)
-      (option_map (λ d. seen_as k' (with_directory m p x) (Directory p d)) (if_live (λ d. d.live) (Some x)))
-  directory_turned x h =
-      let m' : Content = with_directory m p x in
+  -- a directory record changes, and rows, with those of the other live directories as they were
+  pub directory_turned : (x : DirectoryRecord) (rows : List Row) → p < length m.directories → OthersStay m p rows
+      → Turned k k' m (with_directory m p x rows) (1 + length m.files + p)
+      (option_map (λ d. seen_as k' (with_directory m p x rows) (Directory p d)) (if_live (λ d. d.live) (Some x)))
+  directory_turned x rows h same =
+      let m' : Content = with_directory m p x rows in
       let seen : ℕ → Option DirectoryRecord → Option Seen = λ q o. option_map (λ d. seen_as k' m' (Directory q d)) (if_live (λ d. d.live) o) in
       record {
         there = seen_directory k' m' (1 + length m.files + p) p refl ∙ ap (seen p) (nth-set_same m.directories p x h);
         elsewhere = others k k' m m' (1 + length m.files + p) refl (λ _. own) (λ q i other. refl)
-            (λ q other. ap (seen q) (nth-set_other m.directories p q x (λ e. other (ap (λ n. 1 + length m.files + n) e))));
+            (λ q other. let apart : q ≡ p → ⊥ = λ e. other (ap (λ n. 1 + length m.files + n) e) in
+            ap (seen q) (nth-set_other m.directories p q x apart)
+            ∙ seen_alike (λ d. d.live) (λ d. seen_as k' m' (Directory q d)) (λ d. seen_as k m (Directory q d)) (slice_get m.directories q)
+            (λ d at live. ap (a_directory d.secret) (same q d apart at live)));
       }

@@ -1,5 +1,5 @@
 -- What a request that is not refused tells, and what it leaves of what the store keeps.
-use Rattle.std.proofs.Common.{◌≡◌, ℕ, ◌^◌, ◌<◌, ◌≤◌, true, List, Some, Ok, Err, Result, sym, refl, ap, ◌∙◌, subst, mod-eq_of_lt, arith}
+use Rattle.std.proofs.Common.{◌≡◌, ℕ, ◌^◌, ◌<◌, ◌≤◌, true, List, [], ◌∷◌, is_none, Some, Ok, Err, Result, sym, refl, ap, ◌∙◌, subst, mod-eq_of_lt, arith}
 use Rattle.holder.specs.declared.capability.Capability.{Capability}
 use Rattle.holder.proofs.ByteFacts.{number-bytes_of}
 use Rattle.secret.specs.declared.secrets.Secret.{Secret}
@@ -9,19 +9,30 @@ use Rattle.admission.specs.declared.objects.Target.{Target}
 use Rattle.admission.specs.declared.objects.Target.TheVariants.{Itself, File, Directory}
 use Rattle.store.specs.Changes.{Change, settled}
 use Rattle.store.specs.Creating.{fit_for}
+use Rattle.store.specs.Directories.{name_at}
+use Rattle.store.specs.Listing.{rows_of}
+use Rattle.store.specs.LookingUp.{walked_on}
+use Rattle.rows.specs.Paths.{names_in}
+use Rattle.rows.specs.Search.{searched}
+use Rattle.memory.specs.declared.records.DirectoryRecord.{DirectoryRecord}
+use Rattle.memory.specs.declared.records.Row.{Row}
+use Rattle.refusal.specs.Chains.{and_then}
+use Rattle.std.specs.Option.{option_map}
 use Rattle.store.specs.Kept.{Kept, grant_of, file_number, directory_number}
 use Rattle.store.specs.Reading.{bytes_in}
-use Rattle.store.specs.Requests.{Ask, create_file, create_directory, read, size, destroy, revoke, Told, granted, the_bytes, the_size, done}
+use Rattle.store.specs.Requests.{Ask, create_file, create_directory, read, size, look_up, walk, row, name, enter, remove, destroy, revoke, Told, granted, the_bytes, the_size, found, the_name, done}
 use Rattle.store.specs.Revoking.{kept_anew}
 use Rattle.store.specs.Served.{decided, scratch_after, served}
 use Rattle.store.specs.Sizes.{sizes_agree}
 use Rattle.store.specs.declared.refusals.StoreRefusal.{StoreRefusal}
 use Rattle.refusal.proofs.ChainFacts.{same_ok, never_ok}
-use Rattle.store.proofs.Entering.{sizes_same}
+use Rattle.store.proofs.Admitting.{sizes_same}
 use Rattle.store.proofs.EntryFacts.{standing_number, standing_narrow}
 use Rattle.store.proofs.Standing.{located_stands}
-use Rattle.runs.proofs.Entered.{Each, by_change, entered_as}
+use Rattle.runs.proofs.Entered.{Each, at_place, by_change, entered_as}
+use Rattle.runs.specs.Seen.{a_directory, seen_as, seen_at}
 use Rattle.runs.proofs.SecretFacts.{secret_seen, secret_located}
+use Rattle.runs.proofs.Trails.{Trail, trail_on}
 
 -- the owner capability of an object, from a fit secret
 pub record OwnerTold (k : Kept) (object : ℕ) (secret : Secret) (told : Told) : Type 0 where
@@ -29,12 +40,22 @@ pub record OwnerTold (k : Kept) (object : ℕ) (secret : Secret) (told : Told) :
   pub fit : fit_for k secret ≡ true
   pub told_is : told ≡ granted (grant_of k object secret)
 
+-- the directory presented has no row of that name
+abbrev pub NewName : Kept → Content → Capability → List ℕ → Type 0
+NewName k m c bs = (secret : Secret) (rows : List Row) → seen_at k m (object_of c) ≡ Some (a_directory secret rows) → is_none (searched bs rows) ≡ true
+
 -- what is told, request by request
 abbrev pub Tells : Kept → Content → Capability → Ask → Told → Type 0
 Tells k m c (create_file bs secret scratch) told = (o : ℕ) × OwnerTold k o secret told
 Tells k m c (create_directory secret scratch) told = (o : ℕ) × OwnerTold k o secret told
 Tells k m c read told = (bs : List ℕ) × (told ≡ the_bytes bs)
 Tells k m c size told = (n : ℕ) × (told ≡ the_size n)
+Tells k m c (look_up bs) told = (x : Capability) × ((told ≡ found x) × Trail k m c (bs ∷ []) x)
+Tells k m c (walk path) told = (x : Capability) × ((told ≡ found x) × Trail k m c (names_in path) x)
+Tells k m c (row n) told = (bs : List ℕ) × (told ≡ the_name bs)
+Tells k m c (name o) told = (bs : List ℕ) × (told ≡ the_name bs)
+Tells k m c (enter bs entry masks) told = (told ≡ done) × NewName k m c bs
+Tells k m c (remove bs) told = told ≡ done
 Tells k m c destroy told = told ≡ done
 Tells k m c (revoke secret scratch) told = ((s : Secret) × (secret_seen k m (object_of c) ≡ Some s)) × OwnerTold k (object_of c) secret told
 
@@ -74,7 +95,19 @@ module _ (k : Kept) (m : Content) (c : Capability) (few : k.files ≤ 256) (few'
   abbrev RightAt : Ask → Target → Change → Type 0
   RightAt ask t change = located m (object_of c) ≡ Some t → Right k m c ask change
 
-  each_right : sizes_agree k m ≡ true → Each k m RightAt
+  -- a walk from the first name on
+  trail_of_path : (names : List (List ℕ)) (t : Target) (x : Capability) → located m (object_of c) ≡ Some t → walked_on k m c.rights.bits names 1 t ≡ Ok x → Trail k m c names x
+  trail_of_path [] t x at e = never_ok _ x e
+  trail_of_path (bs ∷ names) t x at e = trail_on k m bs names c 1 t x at e
+
+  -- the rows that are seen are those that were searched
+  new_name : (bs : List ℕ) (p : ℕ) (d : DirectoryRecord) → is_none (searched bs (rows_of m p d)) ≡ true → located m (object_of c) ≡ Some (Directory p d) → NewName k m c bs
+  new_name bs p d new at secret rows e =
+      let same : a_directory d.secret (rows_of m p d) ≡ a_directory secret rows = (let u = ap (option_map (seen_as k m)) at in cc) in
+      let listed : rows_of m p d ≡ rows = cc in
+      subst (λ x. is_none (searched bs x) ≡ true) listed new
+
+  each_right : sizes_agree k m ≡ true → Each k m c.rights.bits RightAt
   each_right fits = record {
     file_made = λ bs secret scratch t spot free at.
         ((file_number spot.place, record { narrow = omega (arith, free.0.place, (sizes_same k m fits).0); fit = free.0.fit; told_is = refl }), record { modulus = refl; function = refl; port = refl; files = refl; directories = refl });
@@ -82,6 +115,12 @@ module _ (k : Kept) (m : Content) (c : Capability) (few : k.files ≤ 256) (few'
         ((directory_number k p, record { narrow = omega (arith, free.0.place, (sizes_same k m fits).1); fit = free.0.fit; told_is = refl }), record { modulus = refl; function = refl; port = refl; files = refl; directories = refl });
     file_read = λ p r at. ((bytes_in m r, refl), same_store k);
     file_sized = λ p r at. ((r.length, refl), same_store k);
+    name_found = λ bs t x e at. ((x, (refl, trail_on k m bs [] c 0 t x at (ap (λ r. and_then r Ok) e))), same_store k);
+    path_found = λ path t x e at. ((x, (refl, trail_of_path (names_in path) t x at e)), same_store k);
+    row_told = λ n p d i hit at. ((name_at m (at_place k m p d i), refl), same_store k);
+    name_told = λ o p d i hit at. ((name_at m (at_place k m p d i), refl), same_store k);
+    row_entered = λ bs entry masks p d fits at. ((refl, new_name bs p d fits.new at), same_store k);
+    row_removed = λ bs p d i hit at. (refl, same_store k);
     file_gone = λ p r at. (refl, same_store k);
     directory_gone = λ p d at. (refl, same_store k);
     renewed_secret = λ secret scratch t fit at.
@@ -104,7 +143,7 @@ module _ (k : Kept) (m : Content) (c : Capability) (few : k.files ≤ 256) (few'
   answer_right ask told e =
       let made = answered k m (scratch_after k m ask) (decided k m c ask) told e in
       let enters = entered_as k m c ask made.0 made.1.0 in
-      let right = by_change k m RightAt (each_right enters.order.sizes) ask enters.target made.0 enters.made enters.object in (
+      let right = by_change k m c.rights.bits RightAt (each_right enters.order.sizes) ask enters.target made.0 enters.formed enters.made enters.object in (
         subst (Tells k m c ask) made.1.1 right.0,
         subst (λ o. SameStore k o.kept) (sym (ap (settled k m (scratch_after k m ask)) made.1.0)) right.1,
       )

@@ -11,9 +11,9 @@ abbrev pub refused_with : ℕ → Result Told StoreRefusal → Bool
 refused_with number (Ok told) = false
 refused_with number (Err e) = (store_refusal e).number == number
 
--- refused before any capability is looked at: for sizes, or for unsound memory
+-- refused before any capability is looked at: for sizes, for unsound memory, or for the form of a name or a path
 abbrev pub early : Result Told StoreRefusal → Bool
-early answer = refused_with 1 answer || refused_with 2 answer
+early answer = refused_with 1 answer || (refused_with 2 answer || (refused_with 6 answer || refused_with 7 answer))
 
 -- refused for the capability: its port, its object or its check
 abbrev pub turned_away : Result Told StoreRefusal → Bool

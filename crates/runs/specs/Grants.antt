@@ -3,7 +3,7 @@ use Rattle.std.specs.Prelude.{◌≡◌, ℕ, Bool, cond, ◌⊎◌, List, [], �
 use Rattle.holder.specs.declared.capability.Capability.{Capability}
 use Rattle.secret.specs.declared.secrets.Secret.{Secret}
 use Rattle.admission.specs.Objects.{object_of}
-use Rattle.store.specs.Requests.{Ask, create_file, create_directory, read, size, destroy, revoke, Told, granted, the_bytes, the_size, done}
+use Rattle.store.specs.Requests.{Ask, create_file, create_directory, read, size, look_up, walk, row, name, enter, remove, destroy, revoke, Told, granted, the_bytes, the_size, found, the_name, done}
 use Rattle.store.specs.declared.refusals.StoreRefusal.{StoreRefusal}
 use Rattle.runs.specs.History.{Event}
 
@@ -27,6 +27,8 @@ abbrev pub granting : Secret → Result Told StoreRefusal → Consequence
 granting secret (Ok (granted c)) = grants (record { capability = c; secret = secret })
 granting secret (Ok (the_bytes bs)) = neither
 granting secret (Ok (the_size n)) = neither
+granting secret (Ok (found c)) = neither
+granting secret (Ok (the_name bs)) = neither
 granting secret (Ok done) = neither
 granting secret (Err e) = neither
 
@@ -40,6 +42,12 @@ consequence c (create_file bs secret scratch) answer = granting secret answer
 consequence c (create_directory secret scratch) answer = granting secret answer
 consequence c read answer = neither
 consequence c size answer = neither
+consequence c (look_up bs) answer = neither
+consequence c (walk path) answer = neither
+consequence c (row n) answer = neither
+consequence c (name o) answer = neither
+consequence c (enter bs entry masks) answer = neither
+consequence c (remove bs) answer = neither
 consequence c destroy answer = ending (λ o. nat_eq o (object_of c)) answer
 consequence c (revoke secret scratch) answer = granting secret answer
 

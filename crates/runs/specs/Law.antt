@@ -1,12 +1,12 @@
 -- The law of runs: what holds of a store from its opening on, whatever is asked and whatever is refused.
 use Rattle.std.specs.Prelude.{◌≡◌, ℕ, ◌<◌, true, List, Some, Ok}
 use Rattle.family.specs.Rights.{has}
-use Rattle.holder.specs.Dropping.{check_number}
+use Rattle.holder.specs.Dropping.{check_number, thinned}
 use Rattle.holder.specs.Laws.{Genuine}
 use Rattle.holder.specs.Layout.{written}
 use Rattle.holder.specs.declared.capability.Capability.{Capability}
 use Rattle.admission.specs.Objects.{object_of}
-use Rattle.store.specs.Requests.{Ask, Told}
+use Rattle.store.specs.Requests.{Ask, create_file, create_directory, read, size, look_up, walk, row, name, enter, remove, destroy, revoke, Told, found}
 use Rattle.runs.specs.Acceptance.{Reaches, turned_away, Accepted}
 use Rattle.runs.specs.Descent.{Descends}
 use Rattle.runs.specs.Grants.{Grant, Granted, Stands, standing}
@@ -39,14 +39,46 @@ pub record AcceptedExactly (f : ℕ → ℕ → ℕ) (first : Grant) (start : St
   pub one_rights_byte : (c d : Capability) → Accepted (after start calls) c → Accepted (after start calls) d
       → object_of c ≡ object_of d → check_number c ≡ check_number d → c.rights.bits < 256 → d.rights.bits < 256 → c.rights.bits ≡ d.rights.bits
 
+-- both found a capability, and the second thinned to the rights of the first is the first
+pub record FoundAlike (n : ℕ) (f : ℕ → ℕ → ℕ) (told more : Told) : Type 0 where
+  pub first : Capability
+  pub second : Capability
+  pub told_first : told ≡ found first
+  pub told_second : more ≡ found second
+  pub thins : thinned n f second first.rights.bits ≡ Ok first
+
+-- the same answer, but that what is found by a look-up or a walk may have more rights
+abbrev pub Alike : ℕ → (ℕ → ℕ → ℕ) → Ask → Told → Told → Type 0
+Alike n f (create_file bs secret scratch) told more = more ≡ told
+Alike n f (create_directory secret scratch) told more = more ≡ told
+Alike n f read told more = more ≡ told
+Alike n f size told more = more ≡ told
+Alike n f (look_up bs) told more = FoundAlike n f told more
+Alike n f (walk path) told more = FoundAlike n f told more
+Alike n f (row i) told more = more ≡ told
+Alike n f (name o) told more = more ≡ told
+Alike n f (enter bs entry masks) told more = more ≡ told
+Alike n f (remove bs) told more = more ≡ told
+Alike n f destroy told more = more ≡ told
+Alike n f (revoke secret scratch) told more = more ≡ told
+
+-- what is answered under a capability d to a request that is answered so under c: alike, and with the same left behind
+pub record SameAnswer (n : ℕ) (f : ℕ → ℕ → ℕ) (s : State) (c d : Capability) (ask : Ask) (told : Told) : Type 0 where
+  pub more : Told
+  pub answers : answer_in s d ask ≡ Ok more
+  pub alike : Alike n f ask told more
+  pub kept : (outcome_in s d ask).kept ≡ (outcome_in s c ask).kept
+  pub memory : (outcome_in s d ask).memory ≡ (outcome_in s c ask).memory
+  pub scratch : (outcome_in s d ask).scratch ≡ (outcome_in s c ask).scratch
+
 -- more rights, same answer: what is not refused under c has the same answer and leaves the same behind under an accepted d with every right of c
-abbrev pub MoreRights : State → Type 0
-MoreRights s = (c d : Capability) → Accepted s c → Accepted s d → object_of c ≡ object_of d → FewerRights c d
-    → (ask : Ask) (told : Told) → answer_in s c ask ≡ Ok told → outcome_in s d ask ≡ outcome_in s c ask
+abbrev pub MoreRights : ℕ → (ℕ → ℕ → ℕ) → State → Type 0
+MoreRights n f s = (c d : Capability) → Accepted s c → Accepted s d → object_of c ≡ object_of d → FewerRights c d
+    → (ask : Ask) (told : Told) → answer_in s c ask ≡ Ok told → SameAnswer n f s c d ask told
 
 -- over every list of requests since the opening, which granted `first` and left `start`
 pub record LawOfRuns (n : ℕ) (f : ℕ → ℕ → ℕ) (first : Grant) (start : State) : Type 0 where
   pub acceptance_shows : (calls : List Call) → AcceptanceShows (after start calls)
   pub equal_rights_equal_bytes : (calls : List Call) → EqualBytes n f first start calls
   pub accepted_exactly_when : (calls : List Call) → AcceptedExactly f first start calls
-  pub more_rights_same_answer : (calls : List Call) → MoreRights (after start calls)
+  pub more_rights_same_answer : (calls : List Call) → MoreRights n f (after start calls)

@@ -3,6 +3,7 @@ pub mod Staying
 pub mod RequestLaws
 pub mod History
 pub mod Grants
+pub mod Entries
 pub mod Descent
 pub mod Acceptance
 pub mod Law
