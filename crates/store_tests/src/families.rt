@@ -100,7 +100,7 @@ fn two_secrets_share_what_they_are_thinned_to(rt: HostRuntime) -> Result<(), Fai
     let again = bench.revoke(&mut memory, run, 511)?;
     assert_eq!(rt;
         bench.read(&memory, run).err(),
-        Some(StoreRefusal::Denied(Denial::WrongCheck)),
+        Some(StoreRefusal::Denied(Denial::WrongCheck, 0)),
         "the old owner capability"
     );
     assert_eq!(rt; bench.read(&memory, reader)?, b"abc".as_slice());

@@ -6,9 +6,9 @@ use memory::Memory;
 use std::test::Fail;
 use store::StoreRefusal;
 
-const NO_SUCH_OBJECT: StoreRefusal = StoreRefusal::Denied(Denial::NoSuchObject);
+const NO_SUCH_OBJECT: StoreRefusal = StoreRefusal::Denied(Denial::NoSuchObject, 0);
 
-const WRONG_CHECK: StoreRefusal = StoreRefusal::Denied(Denial::WrongCheck);
+const WRONG_CHECK: StoreRefusal = StoreRefusal::Denied(Denial::WrongCheck, 0);
 
 /// Where the record at a place says that its file begins.
 fn start(memory: &Memory, place: usize) -> Option<u64> {

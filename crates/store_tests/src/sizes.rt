@@ -204,7 +204,7 @@ fn scratches(rt: HostRuntime) -> Result<(), Fail> {
     scratch = [9; SETS];
     assert_eq!(rt;
         revoked(&mut bench, &mut memory, unknown, 13, &mut scratch),
-        Some(StoreRefusal::Denied(Denial::WrongCheck))
+        Some(StoreRefusal::Denied(Denial::WrongCheck, 0))
     );
     assert_eq!(rt; scratch, [0; SETS], "wiped though the check is refused");
     let mut short = [9; 255];
