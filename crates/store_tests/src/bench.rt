@@ -1,10 +1,12 @@
 //! Memory to lend, and a store over it.
+use admission::Denial;
 use family::{CommutingFamily, FamilyRefusal, Powers};
 use holder::{Capability, Check, Mask, Object, Port, Rights};
 use memory::{DirectoryRecord, FileRecord, Masks, Memory, Row};
 use runs::{Gate, open};
 use secret::{SETS, Secret};
-use store::{Opened, Store, StoreRefusal};
+use std::test::Fail;
+use store::{Answer, Opened, Request, Store, StoreRefusal};
 
 pub const PORT: Port = Port {
     bytes: [0x50, 0x55, 0x4d, 0x50, 0x30, 0x31],
@@ -38,9 +40,24 @@ pub(crate) fn old_directory() -> DirectoryRecord {
     }
 }
 
+/// The three masks of these bits.
+pub(crate) fn masks(works: u8, inspector: u8, buyer: u8) -> Masks {
+    Masks {
+        works: Mask { bits: works },
+        inspector: Mask { bits: inspector },
+        buyer: Mask { bits: buyer },
+    }
+}
+
+/// Masks through which every right is seen.
+pub(crate) const OPEN: Masks = Masks {
+    works: Mask { bits: 255 },
+    inspector: Mask { bits: 255 },
+    buyer: Mask { bits: 255 },
+};
+
 /// A row of another store, with a name of three bytes.
 pub(crate) fn old_row() -> Row {
-    let mask = Mask { bits: 9 };
     Row {
         length: 3,
         name: [9; 24],
@@ -50,12 +67,18 @@ pub(crate) fn old_row() -> Row {
             rights: Rights { bits: 9 },
             check: Check { bytes: [9; 6] },
         },
-        masks: Masks {
-            works: mask,
-            inspector: mask,
-            buyer: mask,
-        },
+        masks: masks(9, 9, 9),
     }
+}
+
+/// Whether all that two rows hold is the same.
+pub(crate) fn are_same_rows(a: &Row, b: &Row) -> bool {
+    a.length == b.length
+        && a.name == b.name
+        && a.capability == b.capability
+        && a.masks.works == b.masks.works
+        && a.masks.inspector == b.masks.inspector
+        && a.masks.buyer == b.masks.buyer
 }
 
 impl Room {
@@ -67,6 +90,26 @@ impl Room {
             rows: [old_row(); 32],
             area: [9; 16],
         }
+    }
+
+    /// Whether all that two rooms hold is the same.
+    pub(crate) fn is_same(&self, other: &Room) -> bool {
+        let files = self.files.iter().zip(&other.files).all(|(x, y)| {
+            x.live == y.live
+                && x.secret.same(y.secret)
+                && x.start == y.start
+                && x.length == y.length
+        });
+        let directories = self.directories.iter().zip(&other.directories).all(|(x, y)| x.live
+            == y.live
+            && x.secret.same(y.secret)
+            && x.count == y.count);
+        let rows = self
+            .rows
+            .iter()
+            .zip(&other.rows)
+            .all(|(x, y)| are_same_rows(x, y));
+        files && directories && rows && self.area == other.area
     }
 }
 
@@ -148,13 +191,143 @@ impl<F: CommutingFamily + Drop> Bench<F> {
     pub(crate) fn size(&self, memory: &Memory, file: Capability) -> Result<u64, StoreRefusal> {
         self.store.size(memory, file)
     }
+
+    pub(crate) fn enter(
+        &self,
+        memory: &mut Memory,
+        directory: Capability,
+        name: &[u8],
+        entry: Capability,
+        masks: Masks,
+    ) -> Result<(), StoreRefusal> {
+        self.store.enter(memory, directory, name, entry, masks)
+    }
+
+    pub(crate) fn remove(
+        &self,
+        memory: &mut Memory,
+        directory: Capability,
+        name: &[u8],
+    ) -> Result<(), StoreRefusal> {
+        self.store.remove(memory, directory, name)
+    }
+
+    pub(crate) fn row<'a>(
+        &self,
+        memory: &'a Memory,
+        directory: Capability,
+        n: u64,
+    ) -> Result<&'a [u8], StoreRefusal> {
+        self.store.row(memory, directory, n)
+    }
+
+    pub(crate) fn name<'a>(
+        &self,
+        memory: &'a Memory,
+        directory: Capability,
+        object: Object,
+    ) -> Result<&'a [u8], StoreRefusal> {
+        self.store.name(memory, directory, object)
+    }
+
+    pub(crate) fn look_up(
+        &self,
+        memory: &Memory,
+        directory: Capability,
+        name: &[u8],
+    ) -> Result<Capability, StoreRefusal> {
+        self.store.look_up(memory, directory, name)
+    }
+
+    pub(crate) fn walk(
+        &self,
+        memory: &Memory,
+        directory: Capability,
+        path: &[u8],
+    ) -> Result<Capability, StoreRefusal> {
+        self.store.walk(memory, directory, path)
+    }
+
+    pub(crate) fn serve(
+        &mut self,
+        memory: &mut Memory,
+        capability: Capability,
+        request: Request,
+    ) -> Result<Answer, StoreRefusal> {
+        self.store.serve(memory, capability, request)
+    }
 }
 
-/// A store of powers modulo 2,147,483,647, with secret 7.
+/// The modulus of the store of powers.
+pub(crate) const MODULUS: u64 = 2_147_483_647;
+
+/// A store of powers, with secret 7.
 pub(crate) fn gate() -> Result<Gate<Powers>, FamilyRefusal> {
     Ok(Gate {
-        family: Powers::new(2_147_483_647)?,
+        family: Powers::new(MODULUS)?,
         port: PORT,
         secret: Secret::new(7),
     })
+}
+
+/// What is left of a capability of the store of powers within a mask.
+pub(crate) fn thinned(capability: Capability, bits: u8) -> Result<Capability, Fail> {
+    Ok(capability.thin_to(&Powers::new(MODULUS)?, Mask { bits })?)
+}
+
+/// A store of powers with a file of three bytes and a directory without rows, and the memory that it lies in.
+#[derive(Drop)]
+pub struct Archive {
+    pub bench: Bench<Powers>,
+    pub room: Room,
+    pub run: Capability,
+    pub directory: Capability,
+}
+
+impl Archive {
+    pub(crate) fn new() -> Result<Archive, Fail> {
+        let mut room = Room::new();
+        let mut memory = lend!(room);
+        let mut bench = Bench::new(gate()?, &mut memory)?;
+        let run = bench.file(&mut memory, b"abc", 11)?;
+        let directory = bench.directory(&mut memory, 13)?;
+        Ok(Archive {
+            bench,
+            room,
+            run,
+            directory,
+        })
+    }
+}
+
+/// A capability of the store of powers that is not accepted, in each way, with the denial for it.
+pub(crate) fn not_accepted(capability: Capability) -> [(Capability, Denial); 4] {
+    let port = Port { bytes: [9; 6] };
+    let object = Object { bytes: [1, 0, 1] };
+    let check = Check { bytes: [0; 6] };
+    let past = Check { bytes: [255; 6] };
+    [
+        (Capability { port, ..capability }, Denial::WrongPort),
+        (
+            Capability {
+                object,
+                ..capability
+            },
+            Denial::NoSuchObject,
+        ),
+        (
+            Capability {
+                check,
+                ..capability
+            },
+            Denial::WrongCheck,
+        ),
+        (
+            Capability {
+                check: past,
+                ..capability
+            },
+            Denial::WrongCheck,
+        ),
+    ]
 }

@@ -1,13 +1,11 @@
 //! Memory that was spoilt between two requests, in each way that there is: refused, and left as it is.
-use crate::bench::{Bench, Room, gate, lend, old_row};
+use crate::bench::{Bench, MODULUS, Room, gate, lend, old_row};
 use family::Powers;
 use holder::{Capability, Check, Port};
 use memory::{DirectoryRecord, FileRecord, Memory, Row};
 use secret::Secret;
 use std::test::Fail;
 use store::StoreRefusal;
-
-const MODULUS: u64 = 2_147_483_647;
 
 /// What is wrong with the memory.
 #[derive(Clone, Copy, Debug)]
@@ -141,20 +139,6 @@ fn prepare() -> Result<Prepared, Fail> {
     Ok(Prepared { bench, room, run })
 }
 
-/// Whether all that two memories hold is the same.
-fn are_same(a: &Room, b: &Room) -> bool {
-    let files = a.files.iter().zip(&b.files).all(|(x, y)| {
-        x.live == y.live && x.secret.same(y.secret) && x.start == y.start && x.length == y.length
-    });
-    let directories = a.directories.iter().zip(&b.directories).all(|(x, y)| {
-        x.live == y.live && x.secret.same(y.secret) && x.count == y.count
-    });
-    let rows = a.rows.iter().zip(&b.rows).all(|(x, y)| {
-        x.length == y.length && x.name == y.name && x.capability == y.capability
-    });
-    files && directories && rows && a.area == b.area
-}
-
 #[test]
 fn the_memory_without_a_flaw(rt: HostRuntime) -> Result<(), Fail> {
     let Prepared {
@@ -185,7 +169,7 @@ fn each_flaw_is_refused_and_left_alone(rt: HostRuntime) -> Result<(), Fail> {
             Err(StoreRefusal::UnsoundMemory),
             "{flaw:?}"
         );
-        assert!(rt; are_same(&room, &before), "{flaw:?}");
+        assert!(rt; room.is_same(&before), "{flaw:?}");
     }
     Ok(())
 }
