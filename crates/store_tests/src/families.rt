@@ -4,7 +4,7 @@ ghost use Rattle.std.specs.Prelude.{◌≤◌, ◌-◌, ◌^◌, refl};
 ghost use Rattle.std.proofs.Common.{arith};
 ghost use Rattle.store_tests.specs.Masking.{masks_commute, masked_below};
 
-use crate::bench::{Bench, PORT, Room, lend, old_file};
+use crate::bench::{Bench, PORT, Room, lend, masks, old_file};
 use admission::Denial;
 use family::CommutingFamily;
 use holder::Mask;
@@ -108,6 +108,39 @@ fn two_secrets_share_what_they_are_thinned_to(rt: HostRuntime) -> Result<(), Fai
         again.thin_to(&Clearing, Mask { bits: 1 })?,
         reader,
         "the same sixteen bytes"
+    );
+    Ok(())
+}
+
+#[test]
+fn the_whole_capability_of_a_row_is_judged(rt: HostRuntime) -> Result<(), Fail> {
+    let mut room = Room::new();
+    let mut memory = lend!(room);
+    let gate = Gate {
+        family: Clearing,
+        port: PORT,
+        secret: Secret::new(255),
+    };
+    let mut bench = Bench::new(gate, &mut memory)?;
+    let run = bench.file(&mut memory, b"abc", 255)?;
+    let directory = bench.directory(&mut memory, 255)?;
+    bench.enter(&mut memory, directory, b"run", run, masks(1, 1, 1))?;
+    let reader = bench.look_up(&memory, directory, b"run")?;
+    assert_eq!(rt; reader, run.thin_to(&Clearing, Mask { bits: 1 })?);
+    let _ = bench.revoke(&mut memory, run, 511)?;
+    assert_eq!(rt;
+        bench.read(&memory, reader)?,
+        b"abc".as_slice(),
+        "what the row showed is still accepted"
+    );
+    assert_eq!(rt;
+        bench.look_up(&memory, directory, b"run"),
+        Err(StoreRefusal::RowNotAccepted(0)),
+        "what it holds is not"
+    );
+    assert_eq!(rt;
+        bench.walk(&memory, directory, b"run"),
+        Err(StoreRefusal::RowNotAccepted(1))
     );
     Ok(())
 }

@@ -8,6 +8,10 @@ mod directories;
 #[cfg(test)]
 mod families;
 #[cfg(test)]
+mod lookups;
+#[cfg(test)]
+mod presented;
+#[cfg(test)]
 mod requests;
 #[cfg(test)]
 mod sizes;
