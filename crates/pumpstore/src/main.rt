@@ -3,25 +3,30 @@
 
 mod printing;
 mod shop;
+mod showing;
 
 use anyhow::Context;
 use memory::{Memory, zero_directory, zero_file, zero_row};
 use printing::show;
 use secret::SETS;
-use shop::{Shop, keep_shop};
+use shop::Shop;
+use showing::keep_shop;
 use std::env;
 use std::process::ExitCode;
 use text::read_decimal;
 
 const USAGE: &str = "usage: pumpstore MODULUS SECRET
 
-Opens a store in memory of its own and files each line of standard input in it as a run, which it
-reads back with a capability that is good for reading only. Then it withdraws the first run, and
-that capability is refused from then on. Each step prints what was done, the number of the line,
-and what came of it: a capability, the bytes of the run, or a refusal, 'no NUMBER LAYER PLACE'.
+Opens a store in memory of its own with a directory in it, files each line of standard input as a
+run, and enters it into the directory as run1, run2 and so on. An inspector and a buyer, who are
+given parts of the capability for the directory, look each run up and read it with what they find.
+Then the first run is withdrawn: the buyer finds it no more, and what he found before is refused.
+Each step prints what was done, the number of the line (0 where there is none), and what came of
+it: a capability, 'ok', the bytes of the run, or a refusal, 'no NUMBER LAYER PLACE'.
 
   MODULUS  of the store's modular powers, a decimal from 3 to 2147483647
-  SECRET   the store's own, a decimal; each run gets the next larger number that is fit
+  SECRET   the store's own, a decimal; the directory and then each run gets the next larger
+           number that is fit
 
 Such secrets are easy to guess: this is for looking at a store, not for keeping runs in it.
 ";

@@ -20,6 +20,19 @@ pub fn show(
     }
 }
 
+/// Prints a step that gives nothing but that it is done, or the refusal.
+pub fn show_done(
+    rt: &HostRuntime,
+    step: &str,
+    line: usize,
+    came: Result<(), Refusal>,
+) -> io::Result<()> {
+    match came {
+        Ok(()) => println!(rt; "{step} {line} ok"),
+        Err(refusal) => println!(rt; "{step} {line} {}", RefusalLine { refusal }),
+    }
+}
+
 /// Prints what was read of a run, byte for byte, or the refusal.
 pub fn show_read(rt: &HostRuntime, line: usize, came: Result<&[u8], Refusal>) -> io::Result<()> {
     match came {

@@ -1,35 +1,43 @@
-//! What the works does with its store: runs filed, read back, and one withdrawn.
-use crate::printing::{show, show_read};
+//! The works' store: each call of it that the program makes, with what it gives out.
 use family::{CommutingFamily, Powers};
 use holder::{Capability, Mask, Port};
-use memory::Memory;
+use memory::{Masks, Memory};
 use refusal::Refusal;
 use runs::{Gate, open};
 use secret::{Secret, is_fit};
-use std::io::{BufRead, BufReader};
 use store::{Opened, Store};
 
 /// The port that the store is known by.
 const PORT: Port = Port { bytes: *b"PUMP01" };
 
-/// The right to read, and no other.
-const READING: Mask = Mask { bits: 1 };
+/// The right by which an inspector looks runs up.
+const INSPECTING: Mask = Mask { bits: 2 };
+
+/// The right by which a buyer looks runs up.
+const BUYING: Mask = Mask { bits: 4 };
+
+/// What the directory lets see of a run: all for the works, reading and size for an inspector, reading for a buyer.
+const COLUMNS: Masks = Masks {
+    works: Mask { bits: 255 },
+    inspector: Mask { bits: 3 },
+    buyer: Mask { bits: 1 },
+};
 
 /// A store, the capability to create in it, and the number that was last taken for a secret.
 #[derive(Drop)]
 pub struct Shop {
     family: Powers,
     store: Store<Powers>,
-    owner: Capability,
+    pub owner: Capability,
     last: u64,
 }
 
-/// A run by the number of its line, with the capability that the works keeps for it, and the one that it hands out.
+/// Capabilities for the directory of runs: the works' own, and those that it hands out.
 #[derive(Clone, Copy)]
-struct Run {
-    line: usize,
-    owner: Capability,
-    reader: Capability,
+pub struct Directory {
+    pub works: Capability,
+    pub inspector: Capability,
+    pub buyer: Capability,
 }
 
 impl Shop {
@@ -67,87 +75,79 @@ impl Shop {
         Secret::new(modulus)
     }
 
-    /// Files a run, and restricts its owner capability to reading.
-    fn file(
+    /// Creates the directory of runs.
+    pub fn create_directory(
         &mut self,
         memory: &mut Memory,
         scratch: &mut [u64],
-        line: usize,
-        bytes: &[u8],
-    ) -> Result<Run, Refusal> {
+    ) -> Result<Directory, Refusal> {
         let secret = self.next_secret(scratch);
-        let owner = self
+        let works = self
             .store
-            .create_file(memory, self.owner, bytes, secret, scratch)?;
-        let reader = owner.thin_to(&self.family, READING)?;
-        Ok(Run {
-            line,
-            owner,
-            reader,
+            .create_directory(memory, self.owner, secret, scratch)?;
+        self.hand_out(works)
+    }
+
+    /// Thins the capability for the directory to what an inspector and a buyer are given.
+    fn hand_out(&self, works: Capability) -> Result<Directory, Refusal> {
+        Ok(Directory {
+            works,
+            inspector: works.thin_to(&self.family, INSPECTING)?,
+            buyer: works.thin_to(&self.family, BUYING)?,
         })
     }
 
-    /// Gives a run another secret, so that what was handed out for it is refused.
-    fn withdraw(
+    /// Files a run.
+    pub fn file(
         &mut self,
         memory: &mut Memory,
         scratch: &mut [u64],
-        run: Run,
+        bytes: &[u8],
     ) -> Result<Capability, Refusal> {
         let secret = self.next_secret(scratch);
-        Ok(self.store.revoke(memory, run.owner, secret, scratch)?)
+        Ok(
+            self.store
+                .create_file(memory, self.owner, bytes, secret, scratch)?,
+        )
     }
 
-    /// Reads a run back with the capability that was handed out for it.
-    fn read<'a>(&self, memory: &'a Memory, run: Run) -> Result<&'a [u8], Refusal> {
-        Ok(self.store.read(memory, run.reader)?)
+    /// Enters a run into the directory.
+    pub fn enter(
+        &self,
+        memory: &mut Memory,
+        directory: Directory,
+        name: &[u8],
+        run: Capability,
+    ) -> Result<(), Refusal> {
+        Ok(
+            self.store
+                .enter(memory, directory.works, name, run, COLUMNS)?,
+        )
     }
-}
 
-/// Files each line of standard input; gives the runs that were not refused.
-fn file_lines(
-    rt: &HostRuntime,
-    shop: &mut Shop,
-    memory: &mut Memory,
-    scratch: &mut [u64],
-) -> anyhow::Result<Vec<Run>> {
-    let alloc = rt.alloc();
-    let mut runs = Vec::new(alloc);
-    let input = BufReader::new(alloc, rt.reader())?;
-    for (i, bytes) in input.split(alloc, b'\n').enumerate() {
-        let line = i + 1;
-        match shop.file(memory, scratch, line, &bytes?) {
-            Ok(run) => {
-                show(rt, "file", line, Ok(run.owner))?;
-                show(rt, "restrict", line, Ok(run.reader))?;
-                runs.push(run)?;
-            }
-            Err(refusal) => show(rt, "file", line, Err(refusal))?,
-        }
+    /// Looks a run up with a capability for the directory.
+    pub fn look_up(
+        &self,
+        memory: &Memory,
+        directory: Capability,
+        name: &[u8],
+    ) -> Result<Capability, Refusal> {
+        Ok(self.store.look_up(memory, directory, name)?)
     }
-    Ok(runs)
-}
 
-/// Files each line of standard input as a run, reads the runs back, and withdraws the first.
-pub fn keep_shop(
-    rt: &HostRuntime,
-    shop: &mut Shop,
-    memory: &mut Memory,
-    scratch: &mut [u64],
-) -> anyhow::Result<()> {
-    show(rt, "open", 0, Ok(shop.owner))?;
-    let runs = file_lines(rt, shop, memory, scratch)?;
-    for run in &runs {
-        show_read(rt, run.line, shop.read(memory, *run))?;
+    /// Reads a run.
+    pub fn read<'a>(&self, memory: &'a Memory, run: Capability) -> Result<&'a [u8], Refusal> {
+        Ok(self.store.read(memory, run)?)
     }
-    if let Some(run) = runs.first() {
-        show(
-            rt,
-            "withdraw",
-            run.line,
-            shop.withdraw(memory, scratch, *run),
-        )?;
-        show_read(rt, run.line, shop.read(memory, *run))?;
+
+    /// Gives a run another secret, so that every capability handed out for it is refused.
+    pub fn withdraw(
+        &mut self,
+        memory: &mut Memory,
+        scratch: &mut [u64],
+        run: Capability,
+    ) -> Result<Capability, Refusal> {
+        let secret = self.next_secret(scratch);
+        Ok(self.store.revoke(memory, run, secret, scratch)?)
     }
-    Ok(())
 }
