@@ -12,6 +12,8 @@ mod lookups;
 #[cfg(test)]
 mod presented;
 #[cfg(test)]
+mod refusals;
+#[cfg(test)]
 mod requests;
 #[cfg(test)]
 mod sizes;
