@@ -33,7 +33,7 @@ pub enum Request<'a> {
     },
     /// The name of the row at a place of a directory, counted from 0.
     Row {
-        place: u64,
+        n: u64,
     },
     /// The name of the row of a directory that was entered last with an object.
     Name {

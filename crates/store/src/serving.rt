@@ -47,18 +47,10 @@ impl<F: CommutingFamily> Store<F> {
                 self.look_up(memory, capability, name).map(Answer::Found)
             }
             Request::Walk { path } => self.walk(memory, capability, path).map(Answer::Found),
-            Request::Row { place } => self.tell_name(
-                memory,
-                Asking::Row,
-                capability,
-                Wanted::Nth(place),
-            ),
-            Request::Name { object } => self.tell_name(
-                memory,
-                Asking::Name,
-                capability,
-                Wanted::LastWith(object),
-            ),
+            Request::Row { n } => self.tell(memory, Asking::Row, capability, Wanted::Nth(n)),
+            Request::Name { object } => {
+                self.tell(memory, Asking::Name, capability, Wanted::LastWith(object))
+            }
             Request::Enter { name, entry, masks } => {
                 self.enter(memory, capability, name, entry, masks)
                     .map(|()| Answer::Done)
@@ -86,7 +78,7 @@ impl<F: CommutingFamily> Store<F> {
     }
 
     /// Where the row that is wanted lies.
-    fn tell_name(
+    fn tell(
         &self,
         memory: &Memory,
         asking: Asking,

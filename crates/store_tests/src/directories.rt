@@ -361,7 +361,7 @@ fn each_request_is_served(rt: HostRuntime) -> Result<(), Fail> {
     assert!(rt; matches!(found, Answer::Found(capability) if capability == run));
     let walked = bench.serve(&mut memory, second, Request::Walk { path: b"run" })?;
     assert!(rt; matches!(walked, Answer::Found(capability) if capability == run));
-    let first = bench.serve(&mut memory, second, Request::Row { place: 0 })?;
+    let first = bench.serve(&mut memory, second, Request::Row { n: 0 })?;
     assert!(rt; matches!(first, Answer::Name { row: 16 }));
     let object = run.object;
     let named = bench.serve(&mut memory, second, Request::Name { object })?;

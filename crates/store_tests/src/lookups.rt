@@ -137,6 +137,24 @@ fn words_that_are_no_paths(rt: HostRuntime) -> Result<(), Fail> {
     Ok(())
 }
 
+/// Paths through an archive, and what is wrong with each at which of its names.
+const FAULTS: [(&[u8], StoreRefusal); 11] = [
+    (b"run/x", StoreRefusal::Denied(Denial::WrongKind, 2)),
+    (b"a/a/run/a/a", StoreRefusal::Denied(Denial::WrongKind, 4)),
+    (b"store/a", StoreRefusal::Denied(Denial::WrongKind, 2)),
+    (b"shut/a", StoreRefusal::Denied(Denial::RightMissing, 2)),
+    (b"x", StoreRefusal::NoSuchRow(1)),
+    (b"x/run", StoreRefusal::NoSuchRow(1)),
+    (b"a/x/a", StoreRefusal::NoSuchRow(2)),
+    (b"a/a/x", StoreRefusal::NoSuchRow(3)),
+    (b"gone", StoreRefusal::RowNotAccepted(1)),
+    (b"a/gone/x", StoreRefusal::RowNotAccepted(2)),
+    (
+        b"a/a/a/a/a/a/a/a/a/a/a/a/a/a/a/x",
+        StoreRefusal::NoSuchRow(16),
+    ),
+];
+
 #[test]
 fn faults_on_the_way(rt: HostRuntime) -> Result<(), Fail> {
     let Archive {
@@ -159,26 +177,7 @@ fn faults_on_the_way(rt: HostRuntime) -> Result<(), Fail> {
     bench.enter(&mut memory, directory, b"store", bench.owner, OPEN)?;
     bench.enter(&mut memory, directory, b"gone", gone, OPEN)?;
     bench.destroy(&mut memory, gone)?;
-    let cases = [
-        (
-            b"run/x".as_slice(),
-            StoreRefusal::Denied(Denial::WrongKind, 2),
-        ),
-        (b"a/a/run/a/a", StoreRefusal::Denied(Denial::WrongKind, 4)),
-        (b"store/a", StoreRefusal::Denied(Denial::WrongKind, 2)),
-        (b"shut/a", StoreRefusal::Denied(Denial::RightMissing, 2)),
-        (b"x", StoreRefusal::NoSuchRow(1)),
-        (b"x/run", StoreRefusal::NoSuchRow(1)),
-        (b"a/x/a", StoreRefusal::NoSuchRow(2)),
-        (b"a/a/x", StoreRefusal::NoSuchRow(3)),
-        (b"gone", StoreRefusal::RowNotAccepted(1)),
-        (b"a/gone/x", StoreRefusal::RowNotAccepted(2)),
-        (
-            b"a/a/a/a/a/a/a/a/a/a/a/a/a/a/a/x",
-            StoreRefusal::NoSuchRow(16),
-        ),
-    ];
-    for (path, refusal) in cases {
+    for (path, refusal) in FAULTS {
         assert_eq!(rt;
             bench.walk(&memory, directory, path),
             Err(refusal),

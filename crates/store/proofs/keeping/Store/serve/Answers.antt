@@ -55,9 +55,9 @@ returns-in-Walk g c =
 
 pub returns-in-Row : goal.returns-in-Row
 returns-in-Row g c =
-    let told = row_outcome (kept g.F.CommutingFamily.modulus_of g.F.CommutingFamily.function_of c.args.self.now) (content c.args.memory.now) c.args.capability c.in-Row.place in
+    let told = row_outcome (kept g.F.CommutingFamily.modulus_of g.F.CommutingFamily.function_of c.args.self.now) (content c.args.memory.now) c.args.capability c.in-Row.n in
     rw c.in-Row.is (record {
-      outcome = nothing_changed _ _ _ _ _ told (c.tell_name.ensures ∙ ap (λ o. o.answer) told);
+      outcome = nothing_changed _ _ _ _ _ told (c.tell.ensures ∙ ap (λ o. o.answer) told);
       loan = search rules;
     })
 
@@ -65,7 +65,7 @@ pub returns-in-Name : goal.returns-in-Name
 returns-in-Name g c =
     let told = name_outcome (kept g.F.CommutingFamily.modulus_of g.F.CommutingFamily.function_of c.args.self.now) (content c.args.memory.now) c.args.capability (number c.in-Name.object.bytes) in
     rw c.in-Name.is (record {
-      outcome = nothing_changed _ _ _ _ _ told (c.tell_name-in-Name.ensures ∙ ap (λ o. o.answer) told);
+      outcome = nothing_changed _ _ _ _ _ told (c.tell-in-Name.ensures ∙ ap (λ o. o.answer) told);
       loan = search rules;
     })
 
