@@ -1,5 +1,5 @@
 //! Names looked up, and paths walked.
-use crate::bench::{Archive, OPEN, lend, masks, not_accepted, thinned};
+use crate::bench::{Archive, OPEN, lend, masks, thinned};
 use admission::Denial;
 use holder::{Capability, Port};
 use memory::Memory;
@@ -137,7 +137,7 @@ fn words_that_are_no_paths(rt: HostRuntime) -> Result<(), Fail> {
     Ok(())
 }
 
-/// Paths through an archive, and what is wrong with each at which of its names.
+/// Paths through a directory that has rows of a run, of itself as `a`, of itself without a right to look up, of the store and of a file that is gone; and why they lead nowhere.
 const FAULTS: [(&[u8], StoreRefusal); 11] = [
     (b"run/x", StoreRefusal::Denied(Denial::WrongKind, 2)),
     (b"a/a/run/a/a", StoreRefusal::Denied(Denial::WrongKind, 4)),
@@ -165,15 +165,10 @@ fn faults_on_the_way(rt: HostRuntime) -> Result<(), Fail> {
     } = Archive::new()?;
     let mut memory = lend!(room);
     let gone = bench.file(&mut memory, b"d", 17)?;
+    let shut = masks(0xf8, 0, 0);
     bench.enter(&mut memory, directory, b"run", run, OPEN)?;
     bench.enter(&mut memory, directory, b"a", directory, OPEN)?;
-    bench.enter(
-        &mut memory,
-        directory,
-        b"shut",
-        directory,
-        masks(0xf8, 0, 0),
-    )?;
+    bench.enter(&mut memory, directory, b"shut", directory, shut)?;
     bench.enter(&mut memory, directory, b"store", bench.owner, OPEN)?;
     bench.enter(&mut memory, directory, b"gone", gone, OPEN)?;
     bench.destroy(&mut memory, gone)?;
@@ -185,13 +180,6 @@ fn faults_on_the_way(rt: HostRuntime) -> Result<(), Fail> {
         );
     }
     assert_eq!(rt; bench.walk(&memory, directory, b"a/run"), Ok(run));
-    for (shown, denial) in not_accepted(directory) {
-        assert_eq!(rt;
-            bench.walk(&memory, shown, b"a/run"),
-            Err(StoreRefusal::Denied(denial, 1)),
-            "{denial:?}"
-        );
-    }
     Ok(())
 }
 
@@ -218,34 +206,60 @@ fn a_walk_sees_less_with_each_name(rt: HostRuntime) -> Result<(), Fail> {
     Ok(())
 }
 
+/// An archive whose directory has a row under each of the stale names, and what was entered under them.
+#[derive(Drop)]
+struct Stale {
+    archive: Archive,
+    entries: [Capability; 4],
+}
+
+/// The names of a run that was withdrawn, of one whose number another has now, of one whose number none has, and of the directory before it had another secret.
+const STALE: [&[u8]; 4] = [b"withdrawn", b"taken", b"gone", b"own"];
+
+impl Stale {
+    fn new() -> Result<Stale, Fail> {
+        let Archive {
+            mut bench,
+            mut room,
+            run,
+            directory,
+        } = Archive::new()?;
+        let mut memory = lend!(room);
+        let taken = bench.file(&mut memory, b"d", 17)?;
+        let gone = bench.file(&mut memory, b"e", 19)?;
+        let entries = [run, taken, gone, directory];
+        for (name, entry) in STALE.iter().zip(entries) {
+            bench.enter(&mut memory, directory, name, entry, OPEN)?;
+        }
+        let run = bench.revoke(&mut memory, run, 23)?;
+        bench.destroy(&mut memory, taken)?;
+        bench.destroy(&mut memory, gone)?;
+        let anew = bench.file(&mut memory, b"f", 29)?;
+        if anew.object != taken.object {
+            return Err(Fail::new("the new file has another number"));
+        }
+        let directory = bench.revoke(&mut memory, directory, 31)?;
+        let archive = Archive {
+            bench,
+            room,
+            run,
+            directory,
+        };
+        Ok(Stale { archive, entries })
+    }
+}
+
 #[test]
-fn rows_that_have_gone_stale(rt: HostRuntime) -> Result<(), Fail> {
+fn stale_rows_are_told_but_not_found(rt: HostRuntime) -> Result<(), Fail> {
+    let Stale { archive, entries } = Stale::new()?;
     let Archive {
-        mut bench,
+        bench,
         mut room,
-        run: withdrawn,
         directory,
-    } = Archive::new()?;
-    let mut memory = lend!(room);
-    let taken = bench.file(&mut memory, b"d", 17)?;
-    let gone = bench.file(&mut memory, b"e", 19)?;
-    bench.enter(&mut memory, directory, b"withdrawn", withdrawn, OPEN)?;
-    bench.enter(&mut memory, directory, b"taken", taken, OPEN)?;
-    bench.enter(&mut memory, directory, b"gone", gone, OPEN)?;
-    bench.enter(&mut memory, directory, b"own", directory, OPEN)?;
-    let _ = bench.revoke(&mut memory, withdrawn, 23)?;
-    bench.destroy(&mut memory, taken)?;
-    bench.destroy(&mut memory, gone)?;
-    let anew = bench.file(&mut memory, b"f", 29)?;
-    assert_eq!(rt; anew.object, taken.object, "another file has the number");
-    let directory = bench.revoke(&mut memory, directory, 37)?;
-    let rows = [
-        (b"withdrawn".as_slice(), withdrawn),
-        (b"taken", taken),
-        (b"gone", gone),
-        (b"own", directory),
-    ];
-    for (i, (name, entry)) in rows.iter().enumerate() {
+        ..
+    } = archive;
+    let memory = lend!(room);
+    for (i, (name, entry)) in STALE.iter().zip(entries).enumerate() {
         assert_eq!(rt;
             bench.look_up(&memory, directory, name),
             Err(StoreRefusal::RowNotAccepted(0)),
@@ -262,7 +276,20 @@ fn rows_that_have_gone_stale(rt: HostRuntime) -> Result<(), Fail> {
             "{name:?}"
         );
     }
-    for (name, _) in rows {
+    Ok(())
+}
+
+#[test]
+fn stale_rows_are_rows_that_are_left(rt: HostRuntime) -> Result<(), Fail> {
+    let Stale { archive, .. } = Stale::new()?;
+    let Archive {
+        bench,
+        mut room,
+        directory,
+        ..
+    } = archive;
+    let mut memory = lend!(room);
+    for name in STALE {
         assert_eq!(rt;
             bench.destroy(&mut memory, directory),
             Err(StoreRefusal::RowsLeft),
