@@ -37,6 +37,13 @@ impl<'a> Name<'a> {
         is_lawful_name(bytes).then_some(Name { bytes })
     }
 
+    /// Its bytes.
+    pub fn bytes(self) -> &'a [u8]
+        ensures { result.now ≡ self.entry.bytes.now }
+    {
+        self.bytes
+    }
+
     /// Whether two names are the same: by that function, and not by a derived equality.
     pub fn same(self, other: Name) -> bool
         ensures { result ≡ same_bytes self.entry.bytes.now other.entry.bytes.now }

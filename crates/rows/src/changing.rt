@@ -4,14 +4,17 @@ ghost use Rattle.rows.specs.Changes.{closed, closed_if_there, row_of, with_last}
 ghost use Rattle.std.specs.Prelude.{◌≡◌, ◌-◌, ◌<◌, ◌≤◌, [], ◌∷◌, ◌++◌, length, take};
 
 use holder::Capability;
-use memory::{Masks, Row, zero_row};
+use memory::{Masks, Name, Row, zero_row};
 
-/// The row of a name, of which it holds at most 24 bytes.
-pub fn row_of(name: &[u8], capability: Capability, masks: Masks) -> Row
-    ensures value { result ≡ row_of (take 24 name.now) capability masks }
-    ensures whole { length name.now ≤ 24 → result ≡ row_of name.now capability masks }
-    ensures back { name_of result ≡ take 24 name.now }
+/// The row of a name.
+///
+/// That a name has 24 bytes at most is no part of its type, so the clauses say what becomes of a longer one, and no `requires` is wanted.
+pub fn row_of(name: Name, capability: Capability, masks: Masks) -> Row
+    ensures value { result ≡ row_of (take 24 name.entry.bytes.now) capability masks }
+    ensures whole { length name.entry.bytes.now ≤ 24 → result ≡ row_of name.entry.bytes.now capability masks }
+    ensures back { name_of result ≡ take 24 name.entry.bytes.now }
 {
+    let name = name.bytes();
     let length = name.len().min(24);
     let mut bytes = [0; 24];
     bytes[..length].copy_from_slice(&name[..length]);

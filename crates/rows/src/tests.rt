@@ -4,7 +4,7 @@ use crate::paths::{is_lawful_path, split_first};
 use crate::searching::{last_for, search};
 use crate::seeing::seen;
 use holder::{Capability, Check, Mask, Object, Port, Rights};
-use memory::{Masks, Row, zero_row};
+use memory::{Masks, Name, Row, zero_row};
 
 fn masks(works: u8, inspector: u8, buyer: u8) -> Masks {
     Masks {
@@ -32,7 +32,10 @@ fn row(name: &[u8], number: u8) -> Row {
             bytes: [0, 0, 0, 0, 0, number],
         },
     };
-    row_of(name, capability, masks(1, 2, 4))
+    match Name::new(name) {
+        Some(name) => row_of(name, capability, masks(1, 2, 4)),
+        None => zero_row(),
+    }
 }
 
 /// Whether a row has these parts of the one made by `row`.
@@ -83,11 +86,8 @@ fn rows_made(rt: HostRuntime) {
     let made = row(b"pump", 9);
     assert!(rt; is_row(&made, b"pump", 9));
     assert_eq!(rt; (made.name[3], made.name[4], made.name[23]), (b'p', 0, 0));
-    let long = row(b"abcdefghijklmnopqrstuvwxyz", 9);
-    assert!(rt;
-        is_row(&long, b"abcdefghijklmnopqrstuvwx", 9),
-        "cut at 24 bytes"
-    );
+    let longest = row(b"abcdefghijklmnopqrstuvwx", 9);
+    assert!(rt; is_row(&longest, b"abcdefghijklmnopqrstuvwx", 9));
 }
 
 #[test]

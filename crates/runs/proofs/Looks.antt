@@ -25,7 +25,8 @@ use Rattle.rows.proofs.SeenFacts.{seen_bound}
 use Rattle.store.specs.Directories.{row_in, row_at}
 use Rattle.store.specs.Kept.{Kept}
 use Rattle.store.specs.Listing.{rows_of}
-use Rattle.store.specs.LookingUp.{shown_of, shown_now, looked_up, admitted_to_look, look, walked, walked_on}
+use Rattle.store.specs.Admitted.{admitted_to}
+use Rattle.store.specs.LookingUp.{shown_of, shown_now, looked_up, look, walked, walked_on}
 use Rattle.store.specs.Served.{InOrder}
 use Rattle.store.specs.declared.refusals.StoreRefusal.{StoreRefusal}
 use Rattle.store.specs.declared.refusals.StoreRefusal.TheVariants.{Denied, RowNotAccepted}
@@ -90,7 +91,7 @@ module _ (k : Kept) (m : Content) where
   pub look_at : (c : Capability) (bs : List ℕ) (place : ℕ) (x : Capability) → look k m c bs place ≡ Ok x
       → (t : Target) × ((located m (object_of c) ≡ Some t) × (looked_up k m c.rights.bits bs place t ≡ Ok x))
   look_at c bs place x e =
-      let admits = and_then_ok (admitted_to_look k m c place) (looked_up k m c.rights.bits bs place) x e in
+      let admits = and_then_ok (admitted_to k m asked.LookUp c place) (looked_up k m c.rights.bits bs place) x e in
       let judge = and_then_ok (judged_in k m c) (λ t. permitted asked.LookUp t c.rights.bits) admits.0 (refused_as_ok (λ d. Denied d place) _ admits.0 admits.1.0) in
       let same = permitted_same asked.LookUp judge.0 admits.0 c.rights.bits judge.1.1 in
       (admits.0, (judged_at k.modulus k.function k.port.bytes k.own m c judge.0 judge.1.0 ∙ ap Some same, admits.1.1))
@@ -123,7 +124,7 @@ module _ (k : Kept) (m : Content) (order : InOrder k m) (lawful : LawfulStore k)
   -- refusals of look-ups come late, where the capability is accepted
   look_late : (c : Capability) (bs : List ℕ) (place : ℕ) (t : Target) → judged_in k m c ≡ Ok t → IfErr (look k m c bs place) Late
   look_late c bs place t e =
-      refused_then Late (admitted_to_look k m c place) (looked_up k m c.rights.bits bs place)
+      refused_then Late (admitted_to k m asked.LookUp c place) (looked_up k m c.rights.bits bs place)
       (subst (λ r. IfErr (refused_as (λ d. Denied d place) (and_then r (λ t. permitted asked.LookUp t c.rights.bits))) Late) (sym e)
       (refused_told Late (λ d. Denied d place) (permitted asked.LookUp t c.rights.bits) (permitted_late asked.LookUp place t c.rights.bits)))
       (λ s. looked_late k m c.rights.bits bs place s)

@@ -19,7 +19,8 @@ use Rattle.admission.proofs.JudgedFacts.{judged_low}
 use Rattle.rows.specs.Seen.{seen}
 use Rattle.rows.proofs.SeenFacts.{seen_bound, seen_more}
 use Rattle.store.specs.Kept.{Kept}
-use Rattle.store.specs.LookingUp.{shown_of, looked_up, admitted_to_look, look, walked, walked_on}
+use Rattle.store.specs.Admitted.{admitted_to}
+use Rattle.store.specs.LookingUp.{shown_of, looked_up, look, walked, walked_on}
 use Rattle.store.specs.Served.{InOrder}
 use Rattle.store.specs.declared.refusals.StoreRefusal.{StoreRefusal}
 use Rattle.store.specs.declared.refusals.StoreRefusal.TheVariants.{Denied}
@@ -86,7 +87,7 @@ module _ (k : Kept) (m : Content) (order : InOrder k m) (lawful : LawfulStore k)
       → (y : Capability) × ((look k m d bs place ≡ Ok y) × Thinner x y)
   look_wider c d bs place x w e =
       let told : Denial → StoreRefusal = λ r. Denied r place in
-      let admits = and_then_ok (admitted_to_look k m c place) (looked_up k m c.rights.bits bs place) x e in
+      let admits = and_then_ok (admitted_to k m asked.LookUp c place) (looked_up k m c.rights.bits bs place) x e in
       let permits : permitted asked.LookUp w.target c.rights.bits ≡ Ok admits.0 =
       sym (ap (λ r. and_then r (λ t. permitted asked.LookUp t c.rights.bits)) w.first) ∙ refused_as_ok told _ admits.0 admits.1.0 in
       let allowed : permitted asked.LookUp w.target d.rights.bits ≡ Ok admits.0 = more_permitted c d w.fewer asked.LookUp w.target admits.0 permits in

@@ -7,56 +7,42 @@ use Rattle.holder.specs.declared.capability.Capability.{Capability}
 use Rattle.memory.specs.Soundness.{Content}
 use Rattle.memory.specs.declared.records.Row.{Row}
 use Rattle.admission.specs.declared.objects.Target.{Target}
+use Rattle.admission.specs.declared.requests.Asking.TheVariants as asked
 use Rattle.rows.specs.Paths.{names_in, first_of, after_first, rest_names}
 use Rattle.rows.specs.Search.{searched}
 use Rattle.rows.proofs.PathFacts.{names_step}
+use Rattle.store.specs.Admitted.{admitted_to}
 use Rattle.store.specs.Changes.{only_told, outcome, settled, told_as}
 use Rattle.store.specs.Directories.{directory_in, listed, row_at}
 use Rattle.store.specs.Entering.{enterable, room_in}
 use Rattle.store.specs.Kept.{Kept}
-use Rattle.store.specs.LookingUp.{admitted_to_look, look, looked_up, shown_now, walked, walked_on}
+use Rattle.store.specs.LookingUp.{look, looked_up, shown_now, walked, walked_on}
 use Rattle.store.specs.Requests.{found, look_up, walk, well_named, well_pathed}
 use Rattle.store.specs.Served.{ordered, served, sound_for}
 use Rattle.store.specs.Sizes.{sizes_agree}
 use Rattle.store.specs.declared.directories.DirectoryAt.{DirectoryAt}
 use Rattle.store.specs.declared.refusals.StoreRefusal.{StoreRefusal}
 use Rattle.store.specs.declared.refusals.StoreRefusal.TheVariants.{NoSuchRow, UnsoundMemory, WrongSizes}
+use Rattle.store.proofs.Deciding.{outcome_found}
 
 -- the row at a place that there is, whatever stands for one past the end
 pub index_any : (rows : List Row) (i : ℕ) (d e : Row) → i < length rows → slice_index_or rows i d ≡ slice_index_or rows i e
 index_any rows i d e h = get_or_from_slice_get rows i (get_or rows i e) d (slice_get-get_or rows i e h)
 
+-- an object that is admitted to, that it is a directory, and what is found in that
+pub in_directory : {B : Type 0} (r : Result Target StoreRefusal) (next : DirectoryAt → Result B StoreRefusal)
+    → and_then (and_then r directory_in) next ≡ and_then r (λ t. and_then (directory_in t) next)
+in_directory (Err e) next = refl
+in_directory (Ok t) next = refl
+
 module _ (k : Kept) (m : Content) where
-  -- sizes, soundness and form first, then the object and what is found there
-  outcome_found : (fits sound : Bool) (form : Result (Unit {0}) StoreRefusal) (r : Result Target StoreRefusal) (decide : Target → Result Capability StoreRefusal)
-      → outcome (told_as found (and_then (unless fits WrongSizes (unless sound UnsoundMemory form)) (λ _. and_then r decide))) k m []
-      ≡ settled k m (cond (fits && true) [] [])
-      (unless (fits && true) WrongSizes (and_then (unless sound UnsoundMemory (and_then form (λ _. r))) (λ t. and_then (decide t) (λ x. Ok (only_told k m (found x))))))
-  outcome_found false sound form r decide = refl
-  outcome_found true false form r decide = refl
-  outcome_found true true (Err e) r decide = refl
-  outcome_found true true (Ok u) (Err e) decide = refl
-  outcome_found true true (Ok u) (Ok t) decide = by (decide t)
-    where
-      by : (x : Result Capability StoreRefusal) → outcome (told_as found x) k m [] ≡ settled k m [] (and_then x (λ x. Ok (only_told k m (found x))))
-      by (Ok x) = refl
-      by (Err e) = refl
-
-  -- a directory that is entered, and then whether there is room
-  pub room_of_directory : (fits : Bool) (r : Result Target StoreRefusal) (bs : List ℕ) (entry : Capability)
-      → and_then (unless fits WrongSizes (and_then r directory_in)) (λ d. and_then (enterable k m bs entry d) (λ _. Ok d))
-      ≡ unless fits WrongSizes (and_then r (room_in k m bs entry))
-  room_of_directory false r bs entry = refl
-  room_of_directory true (Err e) bs entry = refl
-  room_of_directory true (Ok t) bs entry = refl
-
   module _ (c : Capability) where
     pub look_up_outcome : (bs : List ℕ) → outcome (told_as found (and_then (ordered k m (well_named bs)) (λ _. look k m c bs 0))) k m [] ≡ served k m c (look_up bs)
-    look_up_outcome bs = outcome_found (sizes_agree k m) (sound_for k m) (well_named bs) (admitted_to_look k m c 0) (looked_up k m c.rights.bits bs 0)
+    look_up_outcome bs = outcome_found k m found (sizes_agree k m) (sound_for k m) (well_named bs) (admitted_to k m asked.LookUp c 0) (looked_up k m c.rights.bits bs 0)
 
     -- the first look-up of a walk begins where the capability presented is admitted
-    walk_begins : (bs : List ℕ) (names : List (List ℕ)) → walked k m c (bs ∷ names) 1 ≡ and_then (admitted_to_look k m c 1) (walked_on k m c.rights.bits (bs ∷ names) 1)
-    walk_begins bs names = by (admitted_to_look k m c 1)
+    walk_begins : (bs : List ℕ) (names : List (List ℕ)) → walked k m c (bs ∷ names) 1 ≡ and_then (admitted_to k m asked.LookUp c 1) (walked_on k m c.rights.bits (bs ∷ names) 1)
+    walk_begins bs names = by (admitted_to k m asked.LookUp c 1)
       where
         by : (r : Result Target StoreRefusal)
             → and_then (and_then r (looked_up k m c.rights.bits bs 1)) (λ x. walked k m x names 2) ≡ and_then r (walked_on k m c.rights.bits (bs ∷ names) 1)
@@ -71,14 +57,14 @@ module _ (k : Kept) (m : Content) where
         let rest : List (List ℕ) = rest_names (after_first path) in
         ap (λ r. outcome (told_as found (and_then (ordered k m (well_pathed path)) (λ _. r))) k m [])
         (ap (λ names. walked k m c names 1) step ∙ walk_begins first rest
-        ∙ ap (λ names. and_then (admitted_to_look k m c 1) (walked_on k m c.rights.bits names 1)) (sym step))
-        ∙ outcome_found (sizes_agree k m) (sound_for k m) (well_pathed path) (admitted_to_look k m c 1) (walked_on k m c.rights.bits (names_in path) 1)
+        ∙ ap (λ names. and_then (admitted_to k m asked.LookUp c 1) (walked_on k m c.rights.bits names 1)) (sym step))
+        ∙ outcome_found k m found (sizes_agree k m) (sound_for k m) (well_pathed path) (admitted_to k m asked.LookUp c 1) (walked_on k m c.rights.bits (names_in path) 1)
 
     -- a look-up from the directory and the row that it comes to
-    pub look_from : (bs : List ℕ) (place : ℕ) (d : DirectoryAt) (i : ℕ) → and_then (admitted_to_look k m c place) directory_in ≡ Ok d → searched bs (listed m d) ≡ Some i
+    pub look_from : (bs : List ℕ) (place : ℕ) (d : DirectoryAt) (i : ℕ) → and_then (admitted_to k m asked.LookUp c place) directory_in ≡ Ok d → searched bs (listed m d) ≡ Some i
         → look k m c bs place ≡ shown_now k m c.rights.bits (row_at m (record { directory = d; row = i })) place
     look_from bs place d i e s =
-        let admits = and_then_ok (admitted_to_look k m c place) directory_in d e in
+        let admits = and_then_ok (admitted_to k m asked.LookUp c place) directory_in d e in
         ap (λ r. and_then r (looked_up k m c.rights.bits bs place)) admits.1.0
         ∙ ap (λ r. and_then (and_then r (λ d. given (searched bs (listed m d)) (NoSuchRow place) (λ p. Ok (record { directory = d; row = p })))) (λ at. shown_now k m c.rights.bits (row_at m at) place)) admits.1.1
         ∙ ap (λ o. and_then (given o (NoSuchRow place) (λ p. Ok (record { directory = d; row = p }))) (λ at. shown_now k m c.rights.bits (row_at m at) place)) s

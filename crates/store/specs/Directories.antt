@@ -47,7 +47,7 @@ nth_place n rows = cond (nat_lt n (length rows)) (Some n) None
 abbrev pub place_of : Wanted → List Row → Option ℕ
 place_of (Nth n) = nth_place n
 place_of (LastWith object) = last_for (number object.bytes)
-place_of (Named bs) = searched bs.now
+place_of (Named called) = searched called.bytes.now
 
 -- the row that is wanted of a directory, at a name of a walk or at 0
 abbrev pub row_in : Content → (List Row → Option ℕ) → ℕ → Target → Result RowAt StoreRefusal

@@ -1,5 +1,5 @@
 -- Entering a row into a directory, and removing one.
-use Rattle.std.specs.Prelude.{ℕ, ◌+◌, ◌-◌, ◌<◌, ◌≤◌, List, [], ◌∷◌, ◌++◌, length, Ok, Result, is_none, nat_lt}
+use Rattle.std.specs.Prelude.{ℕ, ◌+◌, ◌-◌, ◌<◌, List, [], ◌∷◌, ◌++◌, Ok, Result, is_none, nat_lt}
 use Rattle.refusal.specs.Chains.{unless, and_then, refused_as}
 use Rattle.holder.specs.declared.capability.Capability.{Capability}
 use Rattle.memory.specs.Records.{recounted}
@@ -30,11 +30,10 @@ enterable k m bs c d =
 abbrev pub room_in : Kept → Content → List ℕ → Capability → Target → Result DirectoryAt StoreRefusal
 room_in k m bs c target = and_then (directory_in target) (λ d. and_then (enterable k m bs c d) (λ _. Ok d))
 
--- what holds of that directory: it has room, and a row holds the whole name
-pub record Room (m : Content) (bs : List ℕ) (d : DirectoryAt) : Type 0 where
+-- what holds of that directory: it has room for a row
+pub record Room (m : Content) (d : DirectoryAt) : Type 0 where
   pub rows : RowsAt m d
   pub room : d.found.count < 16
-  pub short : length bs ≤ 24
 
 -- a row more, behind the others
 abbrev pub with_row : Kept → Content → Row → DirectoryAt → Change

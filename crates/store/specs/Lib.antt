@@ -2,6 +2,7 @@ pub mod Refusals
 pub mod Kept
 pub mod Sizes
 pub mod Requests
+pub mod Admitted
 pub mod Changes
 pub mod Creating
 pub mod Reading

@@ -5,15 +5,16 @@ use Rattle.holder.specs.Dropping.{kept}
 use Rattle.holder.specs.declared.capability.Capability.{Capability}
 use Rattle.memory.specs.Soundness.{Content}
 use Rattle.memory.specs.declared.records.Row.{Row}
-use Rattle.admission.specs.Admission.{judged, admitted}
+use Rattle.admission.specs.Admission.{judged}
 use Rattle.admission.specs.declared.objects.Target.{Target}
 use Rattle.admission.specs.declared.requests.Asking.TheVariants as asked
 use Rattle.rows.specs.Search.{searched}
 use Rattle.rows.specs.Seen.{seen}
+use Rattle.store.specs.Admitted.{admitted_to}
 use Rattle.store.specs.Directories.{row_in, row_at}
 use Rattle.store.specs.Kept.{Kept}
 use Rattle.store.specs.declared.refusals.StoreRefusal.{StoreRefusal}
-use Rattle.store.specs.declared.refusals.StoreRefusal.TheVariants.{BadPath, Denied, RowNotAccepted}
+use Rattle.store.specs.declared.refusals.StoreRefusal.TheVariants.{BadPath, RowNotAccepted}
 
 -- what a row shows to these rights: its capability, thinned to the union of the columns that they see
 abbrev pub shown_of : Kept → ℕ → Row → Capability
@@ -29,13 +30,9 @@ abbrev pub looked_up : Kept → Content → ℕ → List ℕ → ℕ → Target 
 looked_up k m rights bs place target =
     and_then (row_in m (searched bs) place target) (λ at. shown_now k m rights (row_at m at) place)
 
--- the object of a capability that is good for looking up
-abbrev pub admitted_to_look : Kept → Content → Capability → ℕ → Result Target StoreRefusal
-admitted_to_look k m c place = refused_as (λ d. Denied d place) (admitted k.modulus k.function k.port.bytes k.own m asked.LookUp c)
-
 -- a look-up, whose refusals are told at a place
 abbrev pub look : Kept → Content → Capability → List ℕ → ℕ → Result Capability StoreRefusal
-look k m c bs place = and_then (admitted_to_look k m c place) (looked_up k m c.rights.bits bs place)
+look k m c bs place = and_then (admitted_to k m asked.LookUp c place) (looked_up k m c.rights.bits bs place)
 
 -- a walk is the look-ups of its names in turn, each under the result before, and each told at the name's number
 abbrev pub walked : Kept → Content → Capability → List (List ℕ) → ℕ → Result Capability StoreRefusal

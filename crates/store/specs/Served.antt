@@ -1,6 +1,6 @@
 -- What any request comes to: its answer, and what it leaves behind.
 use Rattle.std.specs.Prelude.{◌≡◌, ℕ, ◌^◌, ◌<◌, ◌≤◌, Bool, true, cond, ◌&&◌, List, length, replicate, Ok, Option, Result}
-use Rattle.refusal.specs.Chains.{unless, and_then, refused_as}
+use Rattle.refusal.specs.Chains.{unless, and_then}
 use Rattle.holder.specs.declared.capability.Capability.{Capability}
 use Rattle.memory.specs.Soundness.{Content, sound}
 use Rattle.memory.specs.declared.records.FileRecord.{FileRecord}
@@ -8,25 +8,23 @@ use Rattle.memory.specs.declared.records.Row.{Row}
 use Rattle.rows.specs.Changes.{row_of}
 use Rattle.rows.specs.Paths.{names_in}
 use Rattle.rows.specs.Search.{searched, last_for}
-use Rattle.admission.specs.Admission.{admitted}
 use Rattle.admission.specs.declared.objects.Target.{Target}
 use Rattle.admission.specs.declared.requests.Asking.{Asking}
-use Rattle.admission.specs.declared.requests.Asking.TheVariants as asked
+use Rattle.store.specs.Admitted.{admitted_to}
 use Rattle.store.specs.Changes.{Change, Outcome, only_told, settled}
 use Rattle.store.specs.Creating.{created_file, created_directory}
 use Rattle.store.specs.Destroying.{WithinArea, destructible, gone}
-use Rattle.store.specs.Directories.{directory_in, WithinRows, nth_place, row_in, name_at}
+use Rattle.store.specs.Directories.{WithinRows, nth_place, row_in, name_at}
 use Rattle.store.specs.Entering.{room_in, with_row, without_row}
 use Rattle.store.specs.LookingUp.{looked_up, walked_on}
 use Rattle.store.specs.Kept.{Kept, number_of}
 use Rattle.store.specs.Reading.{file_in, bytes_in}
-use Rattle.store.specs.Requests.{Ask, create_file, create_directory, read, size, look_up, walk, row, name, enter, remove, destroy, revoke, the_bytes, the_size, found, the_name, asking, scratch_of, scratch_fits, well_named, form_of, first_place}
+use Rattle.store.specs.Requests.{Ask, create_file, create_directory, read, size, look_up, walk, row, name, enter, remove, destroy, revoke, the_bytes, the_size, found, the_name, asking, scratch_of, scratch_fits, form_of, first_place}
 use Rattle.store.specs.Revoking.{revoked}
 use Rattle.store.specs.Sizes.{sizes_agree}
-use Rattle.store.specs.declared.directories.DirectoryAt.{DirectoryAt}
 use Rattle.store.specs.declared.directories.RowAt.{RowAt}
 use Rattle.store.specs.declared.refusals.StoreRefusal.{StoreRefusal}
-use Rattle.store.specs.declared.refusals.StoreRefusal.TheVariants.{WrongSizes, UnsoundMemory, Denied}
+use Rattle.store.specs.declared.refusals.StoreRefusal.TheVariants.{WrongSizes, UnsoundMemory}
 
 -- memory is sound for the store
 abbrev pub sound_for : Kept → Content → Bool
@@ -45,7 +43,7 @@ ordered k m form = unless (sizes_agree k m) WrongSizes (unless (sound_for k m) U
 abbrev pub entered : Kept → Content → Asking → Result (Unit {0}) StoreRefusal → ℕ → Capability → Result Target StoreRefusal
 entered k m asking form place c =
     unless (sound_for k m) UnsoundMemory
-    (and_then form (λ _. refused_as (λ d. Denied d place) (admitted k.modulus k.function k.port.bytes k.own m asking c)))
+    (and_then form (λ _. admitted_to k m asking c place))
 
 -- what holds of such an object: it has a number of 24 bits, a file lies in the area, and a directory's rows lie among the rows
 pub record Entry (k : Kept) (m : Content) (target : Target) : Type 0 where
@@ -57,17 +55,9 @@ pub record Entry (k : Kept) (m : Content) (target : Target) : Type 0 where
 abbrev pub file_entered : Kept → Content → Asking → Capability → Result FileRecord StoreRefusal
 file_entered k m asking c = unless (sizes_agree k m) WrongSizes (and_then (entered k m asking (Ok tt) 0 c) file_in)
 
--- the directory that a capability is admitted to, over memory of the right sizes
-abbrev pub directory_entered : Kept → Content → Asking → Result (Unit {0}) StoreRefusal → Capability → Result DirectoryAt StoreRefusal
-directory_entered k m asking form c = unless (sizes_agree k m) WrongSizes (and_then (entered k m asking form 0 c) directory_in)
-
--- the row that is wanted of that directory
-abbrev pub row_entered : Kept → Content → Asking → Result (Unit {0}) StoreRefusal → Capability → (List Row → Option ℕ) → Result RowAt StoreRefusal
-row_entered k m asking form c place = unless (sizes_agree k m) WrongSizes (and_then (entered k m asking form 0 c) (row_in m place 0))
-
--- the directory with room for an entry under a name
-abbrev pub room_entered : Kept → Content → Capability → List ℕ → Capability → Result DirectoryAt StoreRefusal
-room_entered k m c bs entry = unless (sizes_agree k m) WrongSizes (and_then (entered k m asked.Enter (well_named bs) 0 c) (room_in k m bs entry))
+-- the row that is wanted of the directory that a capability is admitted to, over memory in order
+abbrev pub row_found : Kept → Content → Asking → Capability → (List Row → Option ℕ) → Result RowAt StoreRefusal
+row_found k m asking c wanted = and_then (ordered k m (Ok tt)) (λ _. and_then (admitted_to k m asking c 0) (row_in m wanted 0))
 
 -- what an admitted request comes to at its object; of the capability presented only the rights play a part any more, and they only where a name is looked up
 abbrev pub carried : Kept → Content → ℕ → Ask → Target → Result Change StoreRefusal

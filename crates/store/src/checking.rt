@@ -66,34 +66,31 @@ impl<F: CommutingFamily> Store<F> {
         form
     }
 
-    /// The object of a capability that is admitted to a request, over sound memory, where what is brought is well formed.
+    /// The object of a capability that is admitted to a request that brings nothing of a form, over sound memory.
     ///
     /// `pass` has the value alone, from which what the words say follows once, and not at every exit.
     pub(crate) fn admit(
         &self,
         memory: &Memory,
         asking: Asking,
-        form: Result<(), StoreRefusal>,
         capability: Capability,
     ) -> Result<Target, StoreRefusal>
-        ensures value { result ≡ entered (kept F.modulus_of F.function_of self.now) (content memory.now) asking form 0 capability }
+        ensures value { result ≡ entered (kept F.modulus_of F.function_of self.now) (content memory.now) asking (Ok tt) 0 capability }
         ensures words { IfOk result (Entry (kept F.modulus_of F.function_of self.now) (content memory.now)) }
     {
-        self.pass(memory, asking, form, capability)
+        self.pass(memory, asking, capability)
     }
 
-    /// The checks of soundness, of form and of the gate.
+    /// The checks of soundness and of the gate.
     fn pass(
         &self,
         memory: &Memory,
         asking: Asking,
-        form: Result<(), StoreRefusal>,
         capability: Capability,
     ) -> Result<Target, StoreRefusal>
-        ensures { result ≡ entered (kept F.modulus_of F.function_of self.now) (content memory.now) asking form 0 capability }
+        ensures { result ≡ entered (kept F.modulus_of F.function_of self.now) (content memory.now) asking (Ok tt) 0 capability }
     {
         self.check_sound(memory)?;
-        form?;
         Ok(self.gate.admit(memory, asking, capability)?)
     }
 }

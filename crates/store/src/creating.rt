@@ -91,7 +91,7 @@ impl<F: CommutingFamily> Store<F> {
         ensures outcome { outcome (told_as granted result) (kept F.modulus_of F.function_of self.new) (content memory.new) [] ≡ settled (kept F.modulus_of F.function_of self.old) (content memory.old) [] (attempted (kept F.modulus_of F.function_of self.old) (content memory.old) capability (create_file bytes.now secret [])) }
         ensures loan { SameLoan memory.old memory.new }
     {
-        let _ = self.admit(memory, Asking::CreateFile, Ok(()), capability)?;
+        let _ = self.admit(memory, Asking::CreateFile, capability)?;
         let spot = self.spot(memory, bytes.len() as u64, secret, numbers)?;
         let grant = self.grant(file_number(spot.place), secret);
         self.write_file(memory, spot, bytes, secret);

@@ -59,7 +59,7 @@ impl<F: CommutingFamily> Store<F> {
         ensures outcome { outcome (told_as (λ _. done) result) (kept F.modulus_of F.function_of self.now) (content memory.new) [] ≡ settled (kept F.modulus_of F.function_of self.now) (content memory.old) [] (attempted (kept F.modulus_of F.function_of self.now) (content memory.old) capability destroy) }
         ensures loan { SameLoan memory.old memory.new }
     {
-        let target = self.admit(memory, Asking::Destroy, Ok(()), capability)?;
+        let target = self.admit(memory, Asking::Destroy, capability)?;
         let found = check_destructible(target)?;
         self.remove_object(memory, found);
         Ok(())

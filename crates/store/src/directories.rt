@@ -1,21 +1,22 @@
 //! Directories and their rows, as they are read.
 ghost use Rattle.holder.specs.Bytes.{number};
 ghost use Rattle.memory.specs.Held.{content};
-ghost use Rattle.rows.specs.Search.{last_for};
+ghost use Rattle.refusal.specs.Chains.{and_then};
 ghost use Rattle.std.specs.Prelude.{◌≡◌, ◌<◌, IfOk, IfSome, Ok, length};
+ghost use Rattle.store.specs.Admitted.{admitted_to};
 ghost use Rattle.store.specs.Changes.{told_as};
-ghost use Rattle.store.specs.Directories.{Counted, RowsAt, listed, name_at, nth_place, place_of};
+ghost use Rattle.store.specs.Directories.{Counted, RowsAt, directory_in, listed, name_at, place_of, row_in};
 ghost use Rattle.store.specs.Held.{kept};
 ghost use Rattle.store.specs.Reading.{shown};
 ghost use Rattle.store.specs.Requests.{name, row, the_name};
-ghost use Rattle.store.specs.Served.{directory_entered, row_entered, served};
+ghost use Rattle.store.specs.Served.{InOrder, row_found, served};
 
 use crate::keeping::Store;
 use crate::refusals::StoreRefusal;
 use admission::{Asking, Denial, Target};
 use family::CommutingFamily;
 use holder::{Capability, Object};
-use memory::{DirectoryRecord, Memory, Row};
+use memory::{DirectoryRecord, Memory, Name, Row};
 use rows::{last_for, search};
 
 /// A live directory, with its place.
@@ -40,7 +41,7 @@ pub enum Wanted<'a> {
     /// The one that was entered last with this object.
     LastWith(Object),
     /// The one of this name.
-    Named(&'a [u8]),
+    Named(Name<'a>),
 }
 
 impl Wanted<'_> {
@@ -52,7 +53,7 @@ impl Wanted<'_> {
         match self {
             Wanted::Nth(n) => (n < rows.len() as u64).then_some(n as usize),
             Wanted::LastWith(object) => last_for(rows, object),
-            Wanted::Named(name) => search(rows, name),
+            Wanted::Named(name) => search(rows, name.bytes()),
         }
     }
 }
@@ -69,37 +70,38 @@ pub(crate) fn list<'a>(memory: &'a Memory, directory: DirectoryAt) -> &'a [Row]
 }
 
 impl<F: CommutingFamily> Store<F> {
-    /// The directory that a capability is admitted to, whose rows lie in memory.
+    /// The directory that a capability is admitted to, over memory in order; a denial is told at a place.
     pub(crate) fn enter_directory(
         &self,
         memory: &Memory,
         asking: Asking,
-        form: Result<(), StoreRefusal>,
         capability: Capability,
+        place: u8,
     ) -> Result<DirectoryAt, StoreRefusal>
-        ensures value { result ≡ directory_entered (kept F.modulus_of F.function_of self.now) (content memory.now) asking form capability }
+        requires { InOrder (kept F.modulus_of F.function_of self.now) (content memory.now) }
+        ensures value { result ≡ and_then (admitted_to (kept F.modulus_of F.function_of self.now) (content memory.now) asking capability place) directory_in }
         ensures within { IfOk result (RowsAt (content memory.now)) }
     {
-        self.check_memory(memory)?;
-        match self.admit(memory, asking, form, capability)? {
-            Target::Directory(place, found) => Ok(DirectoryAt { place, found }),
-            _ => Err(Denial::WrongKind.into()),
+        match self.gate.admit(memory, asking, capability) {
+            Ok(Target::Directory(place, found)) => Ok(DirectoryAt { place, found }),
+            Ok(_) => Err(Denial::WrongKind.into()),
+            Err(denial) => Err(StoreRefusal::Denied(denial, place)),
         }
     }
 
-    /// The row that is wanted of the directory that a capability is admitted to.
-    pub(crate) fn enter_row(
+    /// The row that is wanted of the directory that a capability is admitted to, over memory in order.
+    pub(crate) fn find_row(
         &self,
         memory: &Memory,
         asking: Asking,
-        form: Result<(), StoreRefusal>,
         capability: Capability,
         wanted: Wanted,
     ) -> Result<RowAt, StoreRefusal>
-        ensures value { result ≡ row_entered (kept F.modulus_of F.function_of self.now) (content memory.now) asking form capability (place_of wanted.entry) }
+        requires { InOrder (kept F.modulus_of F.function_of self.now) (content memory.now) }
+        ensures value { result ≡ and_then (admitted_to (kept F.modulus_of F.function_of self.now) (content memory.now) asking capability 0) (row_in (content memory.now) (place_of wanted.entry) 0) }
         ensures counted { IfOk result (Counted (content memory.now)) }
     {
-        let directory = self.enter_directory(memory, asking, form, capability)?;
+        let directory = self.enter_directory(memory, asking, capability, 0)?;
         let row = wanted
             .place(list(memory, directory))
             .ok_or(StoreRefusal::NoSuchRow(0))?;
@@ -114,9 +116,10 @@ impl<F: CommutingFamily> Store<F> {
         capability: Capability,
         wanted: Wanted,
     ) -> Result<&'a [u8], StoreRefusal>
-        ensures { told_as the_name (shown result) ≡ told_as (λ at. the_name (name_at (content memory.now) at)) (row_entered (kept F.modulus_of F.function_of self.now) (content memory.now) asking (Ok tt) capability (place_of wanted.entry)) }
+        ensures { told_as the_name (shown result) ≡ told_as (λ at. the_name (name_at (content memory.now) at)) (row_found (kept F.modulus_of F.function_of self.now) (content memory.now) asking capability (place_of wanted.entry)) }
     {
-        let at = self.enter_row(memory, asking, Ok(()), capability, wanted)?;
+        self.check_order(memory, Ok(()))?;
+        let at = self.find_row(memory, asking, capability, wanted)?;
         Ok(list(memory, at.directory)[at.row].name())
     }
 

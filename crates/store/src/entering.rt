@@ -1,13 +1,16 @@
 //! Entering a row into a directory.
+ghost use Rattle.admission.specs.declared.requests.Asking.TheVariants as asked;
 ghost use Rattle.memory.specs.Held.{content};
 ghost use Rattle.memory.specs.Loans.{SameLoan};
+ghost use Rattle.refusal.specs.Chains.{and_then};
 ghost use Rattle.std.specs.Prelude.{◌≡◌, ◌<◌, [], IfOk};
+ghost use Rattle.store.specs.Admitted.{admitted_to};
 ghost use Rattle.store.specs.Changes.{outcome, told_as};
 ghost use Rattle.store.specs.Directories.{RowsAt};
-ghost use Rattle.store.specs.Entering.{Room, enterable, with_row};
+ghost use Rattle.store.specs.Entering.{Room, enterable, room_in, with_row};
 ghost use Rattle.store.specs.Held.{kept};
-ghost use Rattle.store.specs.Requests.{done, enter, well_named};
-ghost use Rattle.store.specs.Served.{room_entered, served};
+ghost use Rattle.store.specs.Requests.{done, enter};
+ghost use Rattle.store.specs.Served.{InOrder, served};
 
 use crate::directories::{DirectoryAt, list};
 use crate::keeping::Store;
@@ -15,18 +18,8 @@ use crate::refusals::StoreRefusal;
 use admission::Asking;
 use family::CommutingFamily;
 use holder::Capability;
-use memory::{Masks, Memory, Row, is_lawful_name};
+use memory::{Masks, Memory, Name, Row};
 use rows::{put_last, row_of, search};
-
-/// Refused unless the name is lawful.
-pub(crate) fn check_name(name: &[u8]) -> Result<(), StoreRefusal>
-    ensures { result ≡ well_named name.now }
-{
-    if !is_lawful_name(name) {
-        return Err(StoreRefusal::BadName);
-    }
-    Ok(())
-}
 
 impl<F: CommutingFamily> Store<F> {
     /// Refused unless the capability may be entered under the name.
@@ -34,16 +27,16 @@ impl<F: CommutingFamily> Store<F> {
         &self,
         memory: &Memory,
         directory: DirectoryAt,
-        name: &[u8],
+        name: Name,
         entry: Capability,
     ) -> Result<(), StoreRefusal>
         requires { RowsAt (content memory.now) directory }
-        ensures value { result ≡ enterable (kept F.modulus_of F.function_of self.now) (content memory.now) name.now entry directory }
+        ensures value { result ≡ enterable (kept F.modulus_of F.function_of self.now) (content memory.now) name.entry.bytes.now entry directory }
     {
         if self.gate.judge(memory, entry).is_err() {
             return Err(StoreRefusal::EntryNotAccepted);
         }
-        if search(list(memory, directory), name).is_some() {
+        if search(list(memory, directory), name.bytes()).is_some() {
             return Err(StoreRefusal::NameTaken);
         }
         if directory.found.count >= 16 {
@@ -52,18 +45,19 @@ impl<F: CommutingFamily> Store<F> {
         Ok(())
     }
 
-    /// The directory with room for an entry under a name.
+    /// The directory with room for an entry under a name, over memory in order.
     fn find_room(
         &self,
         memory: &Memory,
         capability: Capability,
-        name: &[u8],
+        name: Name,
         entry: Capability,
     ) -> Result<DirectoryAt, StoreRefusal>
-        ensures value { result ≡ room_entered (kept F.modulus_of F.function_of self.now) (content memory.now) capability name.now entry }
-        ensures room { IfOk result (Room (content memory.now) name.now) }
+        requires { InOrder (kept F.modulus_of F.function_of self.now) (content memory.now) }
+        ensures value { result ≡ and_then (admitted_to (kept F.modulus_of F.function_of self.now) (content memory.now) asked.Enter capability 0) (room_in (kept F.modulus_of F.function_of self.now) (content memory.now) name.entry.bytes.now entry) }
+        ensures room { IfOk result (Room (content memory.now)) }
     {
-        let directory = self.enter_directory(memory, Asking::Enter, check_name(name), capability)?;
+        let directory = self.enter_directory(memory, Asking::Enter, capability, 0)?;
         self.check_entry(memory, directory, name, entry)?;
         Ok(directory)
     }
@@ -96,6 +90,7 @@ impl<F: CommutingFamily> Store<F> {
         ensures outcome { outcome (told_as (λ _. done) result) (kept F.modulus_of F.function_of self.now) (content memory.new) [] ≡ served (kept F.modulus_of F.function_of self.now) (content memory.old) capability (enter name.now entry masks) }
         ensures loan { SameLoan memory.old memory.new }
     {
+        let name = self.check_name(memory, name)?;
         let directory = self.find_room(memory, capability, name, entry)?;
         self.write_row(memory, directory, row_of(name, entry, masks));
         Ok(())

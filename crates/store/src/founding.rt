@@ -58,7 +58,7 @@ impl<F: CommutingFamily> Store<F> {
         ensures outcome { outcome (told_as granted result) (kept F.modulus_of F.function_of self.new) (content memory.new) [] ≡ settled (kept F.modulus_of F.function_of self.old) (content memory.old) [] (attempted (kept F.modulus_of F.function_of self.old) (content memory.old) capability (create_directory secret [])) }
         ensures loan { SameLoan memory.old memory.new }
     {
-        let _ = self.admit(memory, Asking::CreateDirectory, Ok(()), capability)?;
+        let _ = self.admit(memory, Asking::CreateDirectory, capability)?;
         let place = self.free_directory(memory, secret, numbers)?;
         let grant = self.grant(self.directory_number(place), secret);
         self.write_directory(memory, place, secret);

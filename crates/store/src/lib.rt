@@ -12,6 +12,7 @@ mod founding;
 mod granting;
 mod keeping;
 mod looking;
+mod naming;
 mod opening;
 mod reading;
 mod refusals;

@@ -7,12 +7,11 @@ ghost use Rattle.std.specs.Prelude.{◌≡◌, ◌≤◌, IfOk, Ok, length};
 ghost use Rattle.store.specs.Changes.{told_as};
 ghost use Rattle.store.specs.Directories.{RowsAt, directory_in};
 ghost use Rattle.store.specs.Held.{kept};
-ghost use Rattle.store.specs.LookingUp.{admitted_to_look, look, shown_now, walked};
+ghost use Rattle.store.specs.LookingUp.{look, shown_now, walked};
 ghost use Rattle.store.specs.Requests.{found, look_up, walk, well_pathed};
 ghost use Rattle.store.specs.Served.{InOrder, served};
 
 use crate::directories::{DirectoryAt, list};
-use crate::entering::check_name;
 use crate::keeping::Store;
 use crate::refusals::StoreRefusal;
 use admission::{Asking, Denial, Target};
@@ -32,24 +31,6 @@ fn check_path(path: &[u8]) -> Result<(), StoreRefusal>
 }
 
 impl<F: CommutingFamily> Store<F> {
-    /// The directory that a capability is good for looking up in; a denial is told at a place.
-    fn look_into(
-        &self,
-        memory: &Memory,
-        capability: Capability,
-        place: u8,
-    ) -> Result<DirectoryAt, StoreRefusal>
-        requires { InOrder (kept F.modulus_of F.function_of self.now) (content memory.now) }
-        ensures value { result ≡ and_then (admitted_to_look (kept F.modulus_of F.function_of self.now) (content memory.now) capability place) directory_in }
-        ensures within { IfOk result (RowsAt (content memory.now)) }
-    {
-        match self.gate.admit(memory, Asking::LookUp, capability) {
-            Ok(Target::Directory(place, found)) => Ok(DirectoryAt { place, found }),
-            Ok(_) => Err(Denial::WrongKind.into()),
-            Err(denial) => Err(StoreRefusal::Denied(denial, place)),
-        }
-    }
-
     /// What a row shows to these rights, if its whole capability is accepted now.
     fn show(
         &self,
@@ -80,7 +61,7 @@ impl<F: CommutingFamily> Store<F> {
         requires { InOrder (kept F.modulus_of F.function_of self.now) (content memory.now) }
         ensures { result ≡ look (kept F.modulus_of F.function_of self.now) (content memory.now) capability name.now place }
     {
-        let directory = self.look_into(memory, capability, place)?;
+        let directory = self.enter_directory(memory, Asking::LookUp, capability, place)?;
         let rows = list(memory, directory);
         let at = search(rows, name).ok_or(StoreRefusal::NoSuchRow(place))?;
         self.show(memory, capability.rights, &rows[at], place)
@@ -121,8 +102,8 @@ impl<F: CommutingFamily> Store<F> {
     ) -> Result<Capability, StoreRefusal>
         ensures { told_as found result ≡ (served (kept F.modulus_of F.function_of self.now) (content memory.now) capability (look_up name.now)).answer }
     {
-        self.check_order(memory, check_name(name))?;
-        self.look(memory, capability, name, 0)
+        let name = self.check_name(memory, name)?;
+        self.look(memory, capability, name.bytes(), 0)
     }
 
     /// What the names of a path lead to, each looked up under the result before.

@@ -26,7 +26,7 @@ impl<F: CommutingFamily> Store<F> {
         ensures within { IfOk result (λ f. f.start + f.length ≤ length memory.now.area.now) }
     {
         self.check_memory(memory)?;
-        match self.admit(memory, asking, Ok(()), capability)? {
+        match self.admit(memory, asking, capability)? {
             Target::File(_, record) => Ok(record),
             _ => Err(Denial::WrongKind.into()),
         }

@@ -10,7 +10,6 @@ ghost use Rattle.store.specs.Requests.{done, remove};
 ghost use Rattle.store.specs.Served.{served};
 
 use crate::directories::{RowAt, Wanted};
-use crate::entering::check_name;
 use crate::keeping::Store;
 use crate::refusals::StoreRefusal;
 use admission::Asking;
@@ -46,13 +45,8 @@ impl<F: CommutingFamily> Store<F> {
         ensures outcome { outcome (told_as (λ _. done) result) (kept F.modulus_of F.function_of self.now) (content memory.new) [] ≡ served (kept F.modulus_of F.function_of self.now) (content memory.old) capability (remove name.now) }
         ensures loan { SameLoan memory.old memory.new }
     {
-        let at = self.enter_row(
-            memory,
-            Asking::Remove,
-            check_name(name),
-            capability,
-            Wanted::Named(name),
-        )?;
+        let name = self.check_name(memory, name)?;
+        let at = self.find_row(memory, Asking::Remove, capability, Wanted::Named(name))?;
         self.erase_row(memory, at);
         Ok(())
     }

@@ -81,7 +81,7 @@ impl<F: CommutingFamily> Store<F> {
         ensures outcome { outcome (told_as granted result) (kept F.modulus_of F.function_of self.new) (content memory.new) [] ≡ settled (kept F.modulus_of F.function_of self.old) (content memory.old) [] (attempted (kept F.modulus_of F.function_of self.old) (content memory.old) capability (revoke secret [])) }
         ensures loan { SameLoan memory.old memory.new }
     {
-        let target = self.admit(memory, Asking::Revoke, Ok(()), capability)?;
+        let target = self.admit(memory, Asking::Revoke, capability)?;
         self.check_fresh(target, secret, numbers)?;
         let grant = self.grant(self.number_of(target), secret);
         self.renew(memory, target, secret);

@@ -5,7 +5,7 @@ ghost use Rattle.store.specs.Changes.{outcome, told_as};
 ghost use Rattle.store.specs.Directories.{name_at, place_of};
 ghost use Rattle.store.specs.Held.{ask_of, kept, left_in, tell_in};
 ghost use Rattle.store.specs.Requests.{read, the_name};
-ghost use Rattle.store.specs.Served.{row_entered, served};
+ghost use Rattle.store.specs.Served.{row_found, served};
 ghost use Rattle.std.specs.Prelude.{◌≡◌, Ok};
 
 use crate::directories::Wanted;
@@ -85,9 +85,10 @@ impl<F: CommutingFamily> Store<F> {
         capability: Capability,
         wanted: Wanted,
     ) -> Result<Answer, StoreRefusal>
-        ensures { told_as (tell_in memory.now.rows.now memory.now.area.now) result ≡ told_as (λ at. the_name (name_at (content memory.now) at)) (row_entered (kept F.modulus_of F.function_of self.now) (content memory.now) asking (Ok tt) capability (place_of wanted.entry)) }
+        ensures { told_as (tell_in memory.now.rows.now memory.now.area.now) result ≡ told_as (λ at. the_name (name_at (content memory.now) at)) (row_found (kept F.modulus_of F.function_of self.now) (content memory.now) asking capability (place_of wanted.entry)) }
     {
-        let at = self.enter_row(memory, asking, Ok(()), capability, wanted)?;
+        self.check_order(memory, Ok(()))?;
+        let at = self.find_row(memory, asking, capability, wanted)?;
         Ok(Answer::Name {
             row: 16 * at.directory.place + at.row,
         })

@@ -4,7 +4,7 @@ use crate::bench::{
 };
 use family::Powers;
 use holder::{Capability, Object, Port};
-use memory::{Memory, Row, zero_row};
+use memory::{Masks, Memory, Name, Row, zero_row};
 use rows::row_of;
 use std::test::Fail;
 use store::{Answer, Request, StoreRefusal};
@@ -292,16 +292,19 @@ fn what_is_entered_is_kept_as_it_is(rt: HostRuntime) -> Result<(), Fail> {
         bench.enter(&mut memory, directory, name, *entry, *seen)?;
         let row = memory.rows.get(i).ok_or("no such row")?;
         assert!(rt;
-            are_same_rows(row, &row_of(name, *entry, *seen)),
+            are_same_rows(row, &written(name, *entry, *seen)),
             "{name:?}"
         );
     }
     Ok(())
 }
 
-/// The row that is written where a capability is entered with open masks.
-fn written(name: &[u8], entry: Capability) -> Row {
-    row_of(name, entry, OPEN)
+/// The row that is written where a capability is entered under a lawful name.
+fn written(name: &[u8], entry: Capability, masks: Masks) -> Row {
+    match Name::new(name) {
+        Some(name) => row_of(name, entry, masks),
+        None => zero_row(),
+    }
 }
 
 #[test]
@@ -322,19 +325,19 @@ fn all_else_stays_as_it_was(rt: HostRuntime) -> Result<(), Fail> {
     let mut wanted = room;
     let mut memory = lend!(room);
     bench.enter(&mut memory, directory, b"d", other, OPEN)?;
-    wanted.rows[2] = written(b"d", other);
+    wanted.rows[2] = written(b"d", other, OPEN);
     wanted.directories[0].count = 3;
     assert!(rt; room.is_same(&wanted), "entered");
     let mut memory = lend!(room);
     bench.remove(&mut memory, directory, b"a")?;
-    wanted.rows[0] = written(b"b", run);
-    wanted.rows[1] = written(b"d", other);
+    wanted.rows[0] = written(b"b", run, OPEN);
+    wanted.rows[1] = written(b"d", other, OPEN);
     wanted.rows[2] = zero_row();
     wanted.directories[0].count = 2;
     assert!(rt; room.is_same(&wanted), "removed");
     let mut memory = lend!(room);
     bench.enter(&mut memory, other, b"e", run, OPEN)?;
-    wanted.rows[17] = written(b"e", run);
+    wanted.rows[17] = written(b"e", run, OPEN);
     wanted.directories[1].count = 2;
     assert!(rt; room.is_same(&wanted), "entered into the other directory");
     Ok(())
