@@ -1,5 +1,5 @@
 //! What a store keeps from one request to the next.
-ghost use Rattle.std.specs.Prelude.{◌≤◌};
+ghost use Rattle.std.specs.Prelude.{◌≡◌, ◌≤◌};
 
 use crate::tables::Places;
 use admission::Gate;
@@ -14,4 +14,13 @@ pub struct Store<F> {
     pub(crate) directories: Places,
     pub(crate) area: usize,
     ghost few: { (files.size ≤ 256) × (directories.size ≤ 64) },
+}
+
+impl<F> Store<F> {
+    /// The family of the store, with which its holders give rights up.
+    pub fn family(&self) -> &F
+        ensures { result.now ≡ self.now.gate.family }
+    {
+        &self.gate.family
+    }
 }
