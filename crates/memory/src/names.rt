@@ -6,7 +6,7 @@ ghost use Rattle.std.specs.Prelude.{◌≡◌, option_map};
 fn is_name_byte(byte: u8) -> bool
     ensures { result ≡ name_byte byte }
 {
-    (33..=126).contains(&byte) && byte != b'/'
+    byte.is_ascii_graphic() && byte != b'/'
 }
 
 /// Whether the bytes are a lawful name.

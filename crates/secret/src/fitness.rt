@@ -1,5 +1,5 @@
 //! Whether a secret is fit: its 256 thinned numbers, one for each set of rights, all differ.
-ghost use Rattle.std.specs.Prelude.{◌≡◌, ◌<◌, length, Decides, MatchBool};
+ghost use Rattle.std.specs.Prelude.{◌≡◌, ◌≢◌, ℕ, ◌<◌, length, slice_index, Decides, MatchBool};
 ghost use Rattle.family.specs.Fit.{Fit};
 ghost use Rattle.secret.specs.Fitness.{AllNew, NewAt, all_apart, is_fit, left_after, thinned_by, verdict_of};
 
@@ -11,13 +11,24 @@ use family::CommutingFamily;
 /// How many sets of rights there are, and so how many numbers the scratch has.
 pub const SETS: usize = 256;
 
+/// Whether a number is among others: all of them are compared, since that is faster than a branch at each.
+fn is_among(number: u64, others: &[u64]) -> bool
+    ensures { MatchBool result ((i : ℕ) × ((i < length others.now) × (slice_index others.now i ≡ number))) ((i : ℕ) → i < length others.now → slice_index others.now i ≢ number) }
+{
+    let mut among = false;
+    for other in others {
+        among |= *other == number;
+    }
+    among
+}
+
 /// Whether each number differs from all before it.
 fn all_differ(numbers: &[u64; SETS]) -> bool
     ensures { MatchBool result (AllNew numbers.now 256) (AllNew numbers.now 256 → ⊥) }
 {
     // A loop, since the check finds this one alone, and not the same by `all`.
     for (j, number) in numbers.iter().enumerate() {
-        if numbers[..j].contains(number) {
+        if is_among(*number, &numbers[..j]) {
             return false;
         }
     }
