@@ -1,0 +1,4 @@
+pub mod SpelledFacts
+pub mod TakenFacts
+pub mod RuleFacts
+pub mod FaultFacts

@@ -1,0 +1,17 @@
+//! A line of a script as a step: what it asks with which words, or the first word that is wrong.
+#![tactic(auto)]
+
+mod capabilities;
+mod directories;
+mod fields;
+mod kind;
+mod objects;
+mod reading;
+mod step;
+#[cfg(test)]
+mod tests;
+mod verb;
+
+pub use kind::FamilyKind;
+pub use reading::read_step;
+pub use step::{Misread, Step};
