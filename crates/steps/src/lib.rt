@@ -7,6 +7,7 @@ mod fields;
 mod kind;
 mod objects;
 mod reading;
+mod sources;
 mod step;
 #[cfg(test)]
 mod tests;

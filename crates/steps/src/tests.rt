@@ -92,6 +92,32 @@ fn an_entry_is_read(rt: HostRuntime) {
     assert!(rt; is_so);
 }
 
+/// The places of the pockets that a line reads, each with the number of its word.
+fn read_by(line: &[u8]) -> [Option<(u8, u8)>; 2] {
+    match read_step(line) {
+        Ok(step) => {
+            let [first, second] = step.sources();
+            [
+                first.map(|pocket| (pocket.index, pocket.number)),
+                second.map(|pocket| (pocket.index, pocket.number)),
+            ]
+        }
+        Err(_) => [None, None],
+    }
+}
+
+#[test]
+fn pockets_are_read_in_the_order_of_words(rt: HostRuntime) {
+    assert_eq!(rt; read_by(b"store P 7 0123456789ab 0"), [None, None]);
+    assert_eq!(rt; read_by(b"give B1 A0"), [Some((9, 2)), None]);
+    assert_eq!(rt; read_by(b"new B1 7 A0"), [Some((9, 2)), None]);
+    assert_eq!(rt; read_by(b"name B1 A0"), [Some((9, 2)), Some((0, 3))]);
+    assert_eq!(rt;
+        read_by(b"enter B1 pump A0 01 02 04"),
+        [Some((9, 2)), Some((0, 4))]
+    );
+}
+
 #[test]
 fn whole_lines_are_judged_first(rt: HostRuntime) {
     for line in [
