@@ -2,7 +2,7 @@
 use crate::kind::FamilyKind;
 use words::{Pocket, Word};
 
-/// What one line of a script asks, with its words read.
+/// What one line of a script asks: the values of its words, in their order.
 #[derive(Clone, Copy)]
 pub enum Step<'l> {
     Store {
