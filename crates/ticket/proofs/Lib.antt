@@ -1,1 +1,2 @@
+pub mod ApartFacts
 pub mod LineFacts

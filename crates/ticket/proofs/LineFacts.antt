@@ -66,8 +66,8 @@ ok_one_line : (shown : List ℕ) → one_line shown ≡ true → one_line (ok_li
 ok_one_line [] h = refl
 ok_one_line (b ∷ bs) h = h
 
-same_some : (m n : ℕ) → ◌≡◌ {A = Option ℕ} (Some m) (Some n) → m ≡ n
-same_some m n e = cc
+pub same_some : {A : Type 0} (x y : A) → ◌≡◌ {A = Option A} (Some x) (Some y) → x ≡ y
+same_some x y e = cc
 
 -- "ok ", and then what there is to show
 pub put_shown :
@@ -88,6 +88,9 @@ digits_one_line (d ∷ ds) h =
     let parts = and_parts (is_ascii_digit d) (all_ascii_digits ds) h in
     and_from _ _ (grind (arith, nat_tests)) (digits_one_line ds parts.1)
 
+pub decimal_digits : (n : ℕ) → n < 2 ^ 64 → all_ascii_digits (decimal n) ≡ true
+decimal_digits n small = digits_decimal (numerals_by_value _ tells_all_ascii_digits) n small
+
 -- what a decimal looks like
 pub record IsShort (n : ℕ) : Type 0 where
   pub some : 0 < length (decimal n)
@@ -98,7 +101,7 @@ pub decimal_is_short : (n : ℕ) → n < 2 ^ 64 → IsShort n
 decimal_is_short n small = record {
   some = decimal_nonempty n small;
   few = length-decimal-le 20 n (omega arith) (omega arith) small;
-  one = digits_one_line (decimal n) (digits_decimal (numerals_by_value _ tells_all_ascii_digits) n small);
+  one = digits_one_line (decimal n) (decimal_digits n small);
 }
 
 pub hex_one_line : (bytes : List ℕ) → one_line (hex_text bytes) ≡ true

@@ -1,3 +1,4 @@
 pub mod AnswerLine
 pub mod Refusals
 pub mod Tickets
+pub mod ToldApart

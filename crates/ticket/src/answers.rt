@@ -1,6 +1,7 @@
 //! Answer lines: what one says, and how it is written.
 ghost use Rattle.std.specs.Prelude.{◌≡◌, ◌≤◌, length, take};
 ghost use Rattle.ticket.specs.AnswerLine.{StaysOneLine, answer_line, over};
+ghost use Rattle.ticket.specs.ToldApart.{ToldApart};
 
 use refusal::Refusal;
 use text::{put, put_decimal, put_hex, put_refusal};
@@ -30,13 +31,14 @@ fn first_shown(bytes: &[u8]) -> &[u8]
 }
 
 impl Answer<'_> {
-    /// Writes the answer line to the front of `out`; gives its length.
+    /// Writes the answer line to the front of `out`, which has room for any; gives its length, and never None.
     pub(crate) fn put(self, out: &mut [u8]) -> Option<usize>
         requires roomy { 320 ≤ length out.old }
         ensures gives { result ≡ Some (length (answer_line self.entry)) }
         ensures leaves { out.new ≡ over (answer_line self.entry) out.old }
         ensures short { length (answer_line self.entry) ≤ 258 }
         ensures one_line { StaysOneLine self.entry }
+        ensures apart { ToldApart self.entry }
     {
         match self {
             Answer::Capability(bytes) => {
@@ -52,6 +54,7 @@ impl Answer<'_> {
                 put_decimal(out, at, n)
             }
             Answer::Refused(refusal) => put_refusal(out, 0, refusal),
+            // Nothing to show.
             Answer::Done | Answer::Bytes(_) => put(out, 0, b"ok"),
         }
     }

@@ -2,6 +2,7 @@
 ghost use Rattle.std.specs.Prelude.{◌≡◌, ◌≤◌, IfOk};
 ghost use Rattle.ticket.specs.AnswerLine.{StaysOneLine};
 ghost use Rattle.ticket.specs.Tickets.{Answers, Takes, answered};
+ghost use Rattle.ticket.specs.ToldApart.{ToldApart};
 
 use crate::answers::Answer;
 use crate::refusals::LineRefusal;
@@ -55,6 +56,7 @@ impl<'d, 'l> Ticket<'d, 'l> {
         ensures leaves { out.new ≡ answered answer.entry out.old }
         ensures short { IfOk result (λ end. end ≤ 258) }
         ensures one_line { IfOk result (λ end. StaysOneLine answer.entry) }
+        ensures apart { IfOk result (λ end. ToldApart answer.entry) }
     {
         if out.len() < LEAST {
             return Err(Kept {
