@@ -1,0 +1,2 @@
+pub mod CarryFacts
+pub mod LawFacts

@@ -1,0 +1,11 @@
+pub mod AnswerLines
+pub mod Answered
+pub mod Beginning
+pub mod Carrying
+pub mod Laws
+pub mod Opening
+pub mod Places
+pub mod Pockets
+pub mod Scripts
+pub mod Sessions
+pub mod Wanting

@@ -1,0 +1,100 @@
+-- What a step wants: the capability that it presents, the one that it names beside that, what it asks of the store, and the
+-- pocket that it fills.
+use Rattle.std.specs.Prelude.{ℕ, List, replicate, Some, None, Option}
+use Rattle.holder.specs.Bytes.{number}
+use Rattle.holder.specs.declared.capability.Capability.{Capability}
+use Rattle.memory.specs.declared.records.Masks.{Masks}
+use Rattle.secret.specs.declared.secrets.Secret.{Secret}
+use Rattle.store.specs.Requests.{Ask, create_file, create_directory, read, size, look_up, walk, row, name, enter, remove, destroy, revoke}
+use Rattle.steps.specs.Asked.{Asked, ToStore, ToFile, ToDirectory, ToRead, ToSize, ToDrop, ToGive, ToEnter, ToRemove, ToLookUp, ToWalk, ToRow, ToName, ToDestroy, ToRevoke}
+use Rattle.words.specs.declared.forms.Pocket.{Pocket}
+
+-- the pocket of the capability presented; the line that opens a store presents none
+abbrev pub presented : Asked → Option Pocket
+presented (ToStore family modulus port secret) = None
+presented (ToFile under secret text to) = Some under
+presented (ToDirectory under secret to) = Some under
+presented (ToRead run) = Some run
+presented (ToSize run) = Some run
+presented (ToDrop from right to) = Some from
+presented (ToGive from to) = Some from
+presented (ToEnter directory called entry works inspector buyer) = Some directory
+presented (ToRemove directory called) = Some directory
+presented (ToLookUp directory called to) = Some directory
+presented (ToWalk directory path to) = Some directory
+presented (ToRow directory n) = Some directory
+presented (ToName directory entry) = Some directory
+presented (ToDestroy object) = Some object
+presented (ToRevoke object secret to) = Some object
+
+-- the pocket of the capability that is entered, or asked the name of
+abbrev pub named_beside : Asked → Option Pocket
+named_beside (ToStore family modulus port secret) = None
+named_beside (ToFile under secret text to) = None
+named_beside (ToDirectory under secret to) = None
+named_beside (ToRead run) = None
+named_beside (ToSize run) = None
+named_beside (ToDrop from right to) = None
+named_beside (ToGive from to) = None
+named_beside (ToEnter directory called entry works inspector buyer) = Some entry
+named_beside (ToRemove directory called) = None
+named_beside (ToLookUp directory called to) = None
+named_beside (ToWalk directory path to) = None
+named_beside (ToRow directory n) = None
+named_beside (ToName directory entry) = Some entry
+named_beside (ToDestroy object) = None
+named_beside (ToRevoke object secret to) = None
+
+-- the pocket that is filled, where the step is not refused
+abbrev pub target : Asked → Option Pocket
+target (ToStore family modulus port secret) = None
+target (ToFile under secret text to) = Some to
+target (ToDirectory under secret to) = Some to
+target (ToRead run) = None
+target (ToSize run) = None
+target (ToDrop from right to) = Some to
+target (ToGive from to) = Some to
+target (ToEnter directory called entry works inspector buyer) = None
+target (ToRemove directory called) = None
+target (ToLookUp directory called to) = Some to
+target (ToWalk directory path to) = Some to
+target (ToRow directory n) = None
+target (ToName directory entry) = None
+target (ToDestroy object) = None
+target (ToRevoke object secret to) = Some to
+
+abbrev pub secret_of : ℕ → Secret
+secret_of n = record { value = n }
+
+abbrev pub masks_of : ℕ → ℕ → ℕ → Masks
+masks_of works inspector buyer = record {
+  works = record { bits = works };
+  inspector = record { bits = inspector };
+  buyer = record { bits = buyer };
+}
+
+-- the scratch that is brought
+abbrev pub clean : List ℕ
+clean = replicate 256 0
+
+-- what is asked of the store with a scratch and with the capability named beside the one presented; dropping and giving ask nothing of it
+abbrev pub request_in : List ℕ → Asked → Capability → Option Ask
+request_in scratch (ToStore family modulus port secret) c = None
+request_in scratch (ToFile under secret text to) c = Some (create_file text.bytes (secret_of secret) scratch)
+request_in scratch (ToDirectory under secret to) c = Some (create_directory (secret_of secret) scratch)
+request_in scratch (ToRead run) c = Some read
+request_in scratch (ToSize run) c = Some size
+request_in scratch (ToDrop from right to) c = None
+request_in scratch (ToGive from to) c = None
+request_in scratch (ToEnter directory called entry works inspector buyer) c = Some (enter called.bytes c (masks_of works inspector buyer))
+request_in scratch (ToRemove directory called) c = Some (remove called.bytes)
+request_in scratch (ToLookUp directory called to) c = Some (look_up called.bytes)
+request_in scratch (ToWalk directory path to) c = Some (walk path.bytes)
+request_in scratch (ToRow directory n) c = Some (row n)
+request_in scratch (ToName directory entry) c = Some (name (number c.object.bytes))
+request_in scratch (ToDestroy object) c = Some destroy
+request_in scratch (ToRevoke object secret to) c = Some (revoke (secret_of secret) scratch)
+
+-- the same with the scratch that is brought
+abbrev pub request : Asked → Capability → Option Ask
+request step c = request_in clean step c
