@@ -1,0 +1,31 @@
+//! The memory that a script's store works in.
+use crate::errors::RunError;
+use memory::{DirectoryRecord, FileRecord, Row, zero_directory, zero_file, zero_row};
+use std::alloc::Global;
+
+const FILES: usize = 64;
+
+const DIRECTORIES: usize = 16;
+
+const AREA: usize = 16_384;
+
+/// 64 file records, 16 directory records with their rows, and an area of 16,384 bytes.
+#[derive(Drop)]
+pub struct Room {
+    pub(crate) files: Vec<FileRecord>,
+    pub(crate) directories: Vec<DirectoryRecord>,
+    pub(crate) rows: Vec<Row>,
+    pub(crate) area: Vec<u8>,
+}
+
+impl Room {
+    /// Memory of zeros; all of it is taken here, and none for a line.
+    pub fn new(alloc: Global) -> Result<Room, RunError> {
+        Ok(Room {
+            files: vec![in alloc; zero_file(); FILES]?,
+            directories: vec![in alloc; zero_directory(); DIRECTORIES]?,
+            rows: vec![in alloc; zero_row(); 16 * DIRECTORIES]?,
+            area: vec![in alloc; 0u8; AREA]?,
+        })
+    }
+}

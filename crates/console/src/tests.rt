@@ -1,0 +1,114 @@
+//! Scripts from memory to memory: lines at their edges, and readers that give few bytes at a time.
+use crate::{Room, RunError, run};
+use std::io::BufReader;
+use std::test::Fail;
+
+const STORE: &[u8] = b"store P 2147483647 50554d503031 7\n";
+
+const OWNER: &[u8] = b"ok 50554d503031000000ff000000000007\n";
+
+/// What is answered to a store line and the script behind it, read so many bytes at a time.
+fn answers(rt: &HostRuntime, ahead: usize, script: &[u8]) -> Result<Vec<u8>, RunError> {
+    let alloc = rt.alloc();
+    let mut whole = Vec::new(alloc);
+    whole.extend_from_slice(STORE)?;
+    whole.extend_from_slice(script)?;
+    let mut input = BufReader::with_capacity(alloc, ahead, whole.as_slice()).map_err(
+        RunError::Input,
+    )?;
+    let mut output = Vec::new(alloc);
+    run(&mut input, &mut output, &mut Room::new(alloc)?)?;
+    Ok(output)
+}
+
+/// Whether the owner capability and these lines are answered, however few bytes are read at a time.
+fn is_answered(rt: &HostRuntime, script: &[u8], lines: &[u8]) -> Result<bool, RunError> {
+    for ahead in [1usize, 2, 7, 256, 8192] {
+        let output = answers(rt, ahead, script)?;
+        if output.strip_prefix(OWNER) != Some(lines) {
+            return Ok(false);
+        }
+    }
+    Ok(true)
+}
+
+#[test]
+fn only_a_line_feed_ends_a_line(rt: HostRuntime) -> Result<(), RunError> {
+    assert!(rt; is_answered(&rt, b"", b"")?);
+    assert!(rt;
+        is_answered(&rt, b"size A0", b"no 14 S 0\n")?,
+        "the last line needs none"
+    );
+    assert!(rt;
+        is_answered(&rt, b"size A0\n", b"no 14 S 0\n")?,
+        "and no line is behind it"
+    );
+    assert!(rt;
+        is_answered(&rt, b"\n", b"no 30 L 1\n")?,
+        "a line of no bytes"
+    );
+    assert!(rt; is_answered(&rt, b"\n\n", b"no 30 L 1\nno 30 L 1\n")?);
+    assert!(rt;
+        is_answered(&rt, b"size A0\r\n", b"no 30 L 0\n")?,
+        "a carriage return"
+    );
+    assert!(rt; is_answered(&rt, b"size\0A0\n", b"no 30 L 0\n")?);
+    assert!(rt; is_answered(&rt, b"size \xff\n", b"no 30 L 0\n")?);
+    Ok(())
+}
+
+/// A line that files a text of this many bytes, all of them 'x'.
+fn filing(rt: &HostRuntime, count: usize) -> Result<Vec<u8>, RunError> {
+    let alloc = rt.alloc();
+    let mut line = Vec::new(alloc);
+    line.extend_from_slice(b"file A0 9 ")?;
+    for _ in 0..count {
+        line.push(b'x')?;
+    }
+    line.extend_from_slice(b" A1\nsize A1\n")?;
+    Ok(line)
+}
+
+#[test]
+fn lines_of_255_bytes_are_taken(rt: HostRuntime) -> Result<(), RunError> {
+    let longest = filing(&rt, 242)?;
+    let answer = b"ok 50554d503031000001ff000000000009\nok 242\n";
+    assert!(rt; is_answered(&rt, &longest, answer)?, "255 bytes");
+    for count in [243usize, 244, 245, 246, 500, 9000] {
+        let longer = filing(&rt, count)?;
+        assert!(rt;
+            is_answered(&rt, &longer, b"no 30 L 0\nno 31 L 2\n")?,
+            "{count}"
+        );
+    }
+    Ok(())
+}
+
+#[test]
+fn a_refused_first_line_ends_the_script(rt: HostRuntime) -> Result<(), RunError> {
+    let alloc = rt.alloc();
+    let mut room = Room::new(alloc)?;
+    for (script, lines) in [
+        (b"".as_slice(), b"".as_slice()),
+        (b"size A0\nsize A0\n", b"no 30 L 1\n"),
+        (
+            b"store P 2 50554d503031 7\nstore P 101 50554d503031 7\n",
+            b"no 4 F 0\n",
+        ),
+        (b"store P 3413 50554d503031 1\n", b"no 3 S 0\n"),
+        (
+            b"store P 3413 50554d503031 2\nsize A0\n",
+            b"ok 50554d503031000000ff000000000002\nno 14 S 0\n",
+        ),
+        (
+            b"store D 3631 50554d503031 4\nstore D 3631 50554d503031 4\n",
+            b"ok 50554d503031000000ff000000000004\nno 30 L 1\n",
+        ),
+    ] {
+        let mut input = BufReader::new(alloc, script).map_err(RunError::Input)?;
+        let mut output = Vec::new(alloc);
+        run(&mut input, &mut output, &mut room)?;
+        assert!(rt; output.as_slice() == lines);
+    }
+    Ok(())
+}
