@@ -1,85 +1,73 @@
-//! pumpstore: files the lines of its input as runs in a store of its own, and shows who can read them.
+//! pumpstore: answers the lines of a script over a store of its own.
 #![tactic(auto)]
 
-mod printing;
-mod shop;
-mod showing;
-
 use anyhow::Context;
-use memory::{Memory, zero_directory, zero_file, zero_row};
-use printing::show;
-use secret::SETS;
-use shop::Shop;
-use showing::keep_shop;
+use console::{Room, run};
 use std::env;
+use std::fs::File;
+use std::io::{self, BufReader, BufWriter, Read};
 use std::process::ExitCode;
-use text::read_decimal;
 
-const USAGE: &str = "usage: pumpstore MODULUS SECRET
+const USAGE: &str = "usage: pumpstore [FILE]...
 
-Opens a store in memory of its own with a directory in it, files each line of standard input as a
-run, and enters it into the directory as run1, run2 and so on. An inspector and a buyer, who are
-given parts of the capability for the directory, look each run up and read it with what they find.
-Then the first run is withdrawn: the buyer finds it no more, and what he found before is refused.
-Each step prints what was done, the number of the line (0 where there is none), and what came of
-it: a capability, 'ok', the bytes of the run, or a refusal, 'no NUMBER LAYER PLACE'.
+Reads a script and prints an answer for each of its lines: from standard input, or from each FILE in
+turn, where each has a store of its own. The first line opens the store; if it is refused, the script
+is at its end.
 
-  MODULUS  of the store's modular powers, a decimal from 3 to 2147483647
-  SECRET   the store's own, a decimal; the directory and then each run gets the next larger
-           number that is fit
+  store L N PORT SECRET   opens a store: L is P for modular powers or D for Dickson polynomials, N the
+                          modulus from 3 to 2147483647, PORT twelve hexadecimal digits; A0 gets the
+                          capability for the store
+  file C SECRET TEXT T    creates a file with the bytes of TEXT      dir C SECRET T   creates a directory
+  read C                  shows a file's bytes                       size C           its length
+  drop C K T              drops right K of C                         give C T         gives C on
+  enter C NAME E W I B    enters E in a directory under NAME, with masks for works, inspector and buyer
+  out C NAME              takes the entry of NAME away               look C NAME T    looks NAME up
+  walk C PATH T           looks up names joined by slashes           row C N          the name in row N
+  name C E                the name entered last for E's object       kill C           destroys an object
+  new C SECRET T          gives an object another secret
 
-Such secrets are easy to guess: this is for looking at a store, not for keeping runs in it.
+C and E are pockets that are read and T is one that is filled: a holder A to H and a digit 0 to 7.
+Numbers are decimals of at most 15 digits, masks two hexadecimal digits, in small letters. An answer is
+'ok', with what there is to show, or 'no' with the refusal's number, layer and place.
+
+The exit status is 0 when all scripts were answered, whatever was refused in them, and 1 when one could
+not be read or its answers not be written.
 ";
 
-const FILES: usize = 64;
+/// Runs the script of a reader, whose answers are printed.
+fn run_from<R: Read + Drop>(rt: &HostRuntime, input: R, room: &mut Room) -> anyhow::Result<()> {
+    let mut input = BufReader::new(rt.alloc(), input)?;
+    let mut output = BufWriter::new(rt.alloc(), io::writer(rt))?;
+    Ok(run(&mut input, &mut output, room)?)
+}
 
-const DIRECTORIES: usize = 16;
-
-const AREA: usize = 16_384;
-
-/// Opens a store over memory of this program's own, and takes standard input through it.
-fn run(rt: &HostRuntime, modulus: u64, secret: u64) -> anyhow::Result<ExitCode> {
-    let alloc = rt.alloc();
-    let wanted = "no memory for the store";
-    let mut files = vec![in alloc; zero_file(); FILES].context(wanted)?;
-    let mut directories = vec![in alloc; zero_directory(); DIRECTORIES].context(wanted)?;
-    let mut rows = vec![in alloc; zero_row(); 16 * DIRECTORIES].context(wanted)?;
-    let mut area = vec![in alloc; 0u8; AREA].context(wanted)?;
-    let mut scratch = vec![in alloc; 0u64; SETS].context(wanted)?;
-    let mut memory = Memory {
-        files: &mut files,
-        directories: &mut directories,
-        rows: &mut rows,
-        area: &mut area,
-    };
-    match Shop::open(modulus, secret, &mut memory, &mut scratch) {
-        Ok(mut shop) => {
-            keep_shop(rt, &mut shop, &mut memory, &mut scratch)?;
-            Ok(ExitCode::SUCCESS)
-        }
-        Err(refusal) => {
-            show(rt, "open", 0, Err(refusal))?;
-            Ok(ExitCode::FAILURE)
-        }
+/// Runs the script of each file, over a store of its own.
+fn run_files(rt: &HostRuntime, names: &[String], room: &mut Room) -> anyhow::Result<()> {
+    for name in names {
+        let file = File::open(rt, name.as_str()).context("a script cannot be opened")?;
+        run_from(rt, file, room)?;
     }
+    Ok(())
 }
 
 fn main(rt: HostRuntime) -> anyhow::Result<ExitCode> {
     let words: Vec<String> = env::args(&rt)?.collect(rt.alloc())?;
-    if let [_, help] = words.as_slice()
+    let names = words.get(1..).unwrap_or(&[]);
+    if let [help] = names
         && help.as_str() == "--help"
     {
         rt.print(USAGE)?;
         return Ok(ExitCode::SUCCESS);
     }
-    if let [_, modulus, secret] = words.as_slice()
-        && let Some(modulus) = read_decimal(modulus.as_bytes())
-        && let Some(secret) = read_decimal(secret.as_bytes())
-    {
-        return run(&rt, modulus, secret);
+    if names.iter().any(|name| name.as_str().starts_with('-')) {
+        eprint!(rt; "pumpstore: there is no option but --help\n\n{USAGE}")?;
+        return Ok(ExitCode::FAILURE);
     }
-    eprint!(rt;
-        "pumpstore: MODULUS and SECRET are wanted, each a decimal of 1 to 15 digits\n\n{USAGE}"
-    )?;
-    Ok(ExitCode::FAILURE)
+    let mut room = Room::new(rt.alloc())?;
+    if names.is_empty() {
+        run_from(&rt, rt.reader(), &mut room)?;
+    } else {
+        run_files(&rt, names, &mut room)?;
+    }
+    Ok(ExitCode::SUCCESS)
 }
