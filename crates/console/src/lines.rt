@@ -1,7 +1,10 @@
 //! Lines of input, in memory that does not grow.
-ghost use Rattle.std.specs.Prelude.{◌≤◌, ◌≡◌};
+ghost use Rattle.console.specs.Lines.{behind, cut, line_in};
+ghost use Rattle.console.specs.Reading.{ReadsOn, is_any, kept};
+ghost use Rattle.std.specs.Prelude.{◌≡◌, ◌≤◌, ◌++◌, [], Some, IfOk, IfSome, OnOk, length};
 
-use std::io::{self, BufRead};
+use arrayvec::ArrayVec;
+use std::io::{self, BufRead, ErrorKind};
 
 /// A byte more than a lawful line has.
 const MOST_KEPT: usize = 256;
@@ -9,52 +12,79 @@ const MOST_KEPT: usize = 256;
 /// A line, of which 256 bytes are kept at most: a longer one is refused for its length, whatever follows.
 #[derive(Drop)]
 pub struct Line {
-    bytes: [u8; MOST_KEPT],
-    length: usize,
-    ghost within: { length ≤ 256 },
+    bytes: ArrayVec<u8, MOST_KEPT>,
+}
+
+/// How many bytes stand before the first line feed, or how many there are where there is none.
+fn length_of_line(bytes: &[u8]) -> usize
+    ensures length { result ≡ length (line_in bytes.now) }
+    ensures within { result ≤ length bytes.now }
+{
+    for (i, byte) in bytes.iter().enumerate() {
+        if *byte == b'\n' {
+            return i;
+        }
+    }
+    bytes.len()
 }
 
 impl Line {
-    pub(crate) fn new() -> Line {
+    /// A line of no bytes.
+    pub(crate) fn new() -> Line
+        ensures { kept result ≡ [] }
+    {
         Line {
-            bytes: [0; MOST_KEPT],
-            length: 0,
+            bytes: ArrayVec::new(),
         }
     }
 
-    pub(crate) fn bytes(&self) -> &[u8] {
-        &self.bytes[..self.length]
-    }
-
-    fn clear(&mut self) {
-        self.length = 0;
+    /// The bytes that are kept.
+    pub(crate) fn bytes(&self) -> &[u8]
+        ensures value { result.now ≡ kept self.now }
+        ensures fits { length result.now ≤ 256 }
+    {
+        self.bytes.as_slice()
     }
 
     /// Adds bytes, as many as there is room for.
-    fn add(&mut self, bytes: &[u8]) {
-        let start = self.length;
-        let end = start + bytes.len().min(MOST_KEPT - start);
-        self.bytes[start..end].copy_from_slice(&bytes[..end - start]);
-        self.length = end;
+    fn add(&mut self, bytes: &[u8])
+        ensures { kept self.new ≡ cut (kept self.old ++ bytes.now) }
+    {
+        let room = MOST_KEPT - self.bytes.len();
+        let taken = room.min(bytes.len());
+        self.bytes.try_extend_from_slice(&bytes[..taken]).unwrap();
+    }
+
+    /// Reads on in a line, as far as its bytes are at hand: at its end Some, with whether there was a line.
+    fn read_on<R: BufRead>(&mut self, input: &mut R) -> io::Result<Option<bool>>
+        ensures { IfOk result (λ end. ReadsOn (R.remaining input.old) (R.remaining input.new) end (kept self.old) (kept self.new)) }
+    {
+        let ahead = input.fill_buf()?;
+        if ahead.is_empty() {
+            return Ok(Some(!self.bytes().is_empty()));
+        }
+        let length = length_of_line(ahead);
+        self.add(&ahead[..length]);
+        if length == ahead.len() {
+            input.consume(length);
+            return Ok(None);
+        }
+        input.consume(length + 1);
+        Ok(Some(true))
     }
 
     /// Reads the next line, without its line feed; false where there is none. A last line needs no line feed.
-    pub(crate) fn read<R: BufRead>(&mut self, input: &mut R) -> io::Result<bool> {
-        self.clear();
-        let mut any = false;
+    pub(crate) fn read<R: BufRead>(&mut self, input: &mut R) -> io::Result<bool>
+        ensures any { IfOk result (λ any. IfSome (R.remaining input.old) (λ xs. any ≡ is_any xs)) }
+        ensures line { OnOk result (IfSome (R.remaining input.old) (λ xs. kept self.new ≡ cut (line_in xs))) }
+        ensures rest { OnOk result (IfSome (R.remaining input.old) (λ xs. R.remaining input.new ≡ Some (behind xs))) }
+    {
+        self.bytes.clear();
         for _ in 0..u64::MAX {
-            let ahead = input.fill_buf()?;
-            let feed = ahead.iter().position(|byte| *byte == b'\n');
-            let used = feed.unwrap_or(ahead.len());
-            self.add(&ahead[..used]);
-            let ends = feed.is_some() || ahead.is_empty();
-            let taken = used + usize::from(feed.is_some());
-            input.consume(taken);
-            any |= taken > 0;
-            if ends {
-                break;
+            if let Some(any) = self.read_on(input)? {
+                return Ok(any);
             }
         }
-        Ok(any)
+        Err(ErrorKind::TimedOut.into())
     }
 }
