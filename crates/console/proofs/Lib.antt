@@ -1,1 +1,3 @@
 pub mod LineFacts
+pub mod PrintFacts
+pub mod RoomFacts

@@ -1,4 +1,7 @@
 //! The memory that a script's store works in.
+ghost use Rattle.console.specs.Rooms.{AllZero, FullSized, held_in};
+ghost use Rattle.std.specs.Prelude.{IfOk};
+
 use crate::errors::RunError;
 use memory::{DirectoryRecord, FileRecord, Row, zero_directory, zero_file, zero_row};
 use std::alloc::Global;
@@ -20,7 +23,10 @@ pub struct Room {
 
 impl Room {
     /// Memory of zeros; all of it is taken here, and none for a line.
-    pub fn new(alloc: Global) -> Result<Room, RunError> {
+    pub fn new(alloc: Global) -> Result<Room, RunError>
+        ensures sizes { IfOk result (λ room. FullSized (held_in room)) }
+        ensures zeros { IfOk result (λ room. AllZero (held_in room)) }
+    {
         Ok(Room {
             files: vec![in alloc; zero_file(); FILES]?,
             directories: vec![in alloc; zero_directory(); DIRECTORIES]?,

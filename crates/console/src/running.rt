@@ -1,39 +1,74 @@
 //! Running a script.
+ghost use Rattle.console.specs.Printing.{PrintsAnswers, text_of};
+ghost use Rattle.console.specs.Rooms.{held_in};
+ghost use Rattle.memory.specs.Held.{content};
+ghost use Rattle.script.specs.Beginning.{stage_of};
+ghost use Rattle.script.specs.Scripts.{answers, before, behind};
+ghost use Rattle.std.specs.Io.Buffered.{reader_remaining};
+ghost use Rattle.std.specs.Io.KnownBytes.{Appends};
+ghost use Rattle.std.specs.Prelude.{◌≡◌, ◌∷◌, [], OnOk};
+
 use crate::errors::RunError;
 use crate::lines::Line;
 use crate::room::Room;
 use memory::Memory;
 use script::Script;
-use std::io::{BufReader, Read, Write};
+use std::io::{BufReader, ErrorKind, Read, Write};
 use ticket::{Desk, LEAST};
+
+/// Prints the answer to a line, and nothing where the script takes no line any more.
+fn print_answer<W: Write>(
+    script: &mut Script,
+    memory: &mut Memory,
+    line: &[u8],
+    output: &mut W,
+) -> Result<(), RunError>
+    ensures prints { OnOk result (Appends (W.contents output.old) (W.contents output.new) (text_of (answers (stage_of script.old (content memory.old)) (line.now ∷ [])))) }
+    ensures stage { stage_of script.new (content memory.new) ≡ behind (stage_of script.old (content memory.old)) (line.now ∷ []) }
+{
+    let mut out = [0; LEAST];
+    if let Ok(Some(length)) = script.answer(memory, &mut Desk, line, &mut out) {
+        out[length] = b'\n';
+        output.write_all(&out[..=length]).map_err(RunError::Output)?;
+    }
+    Ok(())
+}
+
+/// Prints the answers to all lines, in order, until a first line is refused.
+fn print_answers<R: Read + Drop, W: Write>(
+    memory: &mut Memory,
+    input: &mut BufReader<R>,
+    output: &mut W,
+) -> Result<(), RunError>
+    ensures { OnOk result (PrintsAnswers (before (content memory.old)) (reader_remaining R.remaining input.old) (W.contents output.old) (W.contents output.new)) }
+{
+    let mut script = Script::Waiting;
+    let mut line = Line::new();
+    for _ in 0..u64::MAX {
+        if script.is_closed() || !line.read(input).map_err(RunError::Input)? {
+            return output.flush().map_err(RunError::Output);
+        }
+        print_answer(&mut script, memory, line.bytes(), output)?;
+        if input.buffer().is_empty() {
+            output.flush().map_err(RunError::Output)?;
+        }
+    }
+    Err(RunError::Input(ErrorKind::TimedOut.into()))
+}
 
 /// Answers each line of a script, in order, until a first line is refused. Each answer is on its way before more input is waited for.
 pub fn run<R: Read + Drop, W: Write>(
     input: &mut BufReader<R>,
     output: &mut W,
     room: &mut Room,
-) -> Result<(), RunError> {
+) -> Result<(), RunError>
+    ensures { OnOk result (PrintsAnswers (before (held_in room.old)) (reader_remaining R.remaining input.old) (W.contents output.old) (W.contents output.new)) }
+{
     let mut memory = Memory {
         files: &mut room.files,
         directories: &mut room.directories,
         rows: &mut room.rows,
         area: &mut room.area,
     };
-    let mut script = Script::Waiting;
-    let mut desk = Desk;
-    let mut line = Line::new();
-    let mut out = [0; LEAST];
-    for _ in 0..u64::MAX {
-        if script.is_closed() || !line.read(input).map_err(RunError::Input)? {
-            break;
-        }
-        if let Ok(Some(length)) = script.answer(&mut memory, &mut desk, line.bytes(), &mut out) {
-            out[length] = b'\n';
-            output.write_all(&out[..=length]).map_err(RunError::Output)?;
-        }
-        if input.buffer().is_empty() {
-            output.flush().map_err(RunError::Output)?;
-        }
-    }
-    output.flush().map_err(RunError::Output)
+    print_answers(&mut memory, input, output)
 }

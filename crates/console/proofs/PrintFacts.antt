@@ -1,0 +1,159 @@
+-- What is printed of a script, line by line.
+use Rattle.std.proofs.Common.{◌≡◌, ℕ, ◌<◌, ◌≤◌, Bool, true, false, ◌&&◌, List, [], ◌∷◌, ◌++◌, None, Some, Option, Ok, Err, Result, IfOk, OnOk, IsErrAnd, MatchResult, IfSome, cond, eqb, length, refl, sym, ap, subst, ◌∙◌, arith, take_all, append_assoc, append-nil, length-take, ⊎_elim}
+use Rattle.std.proofs.lemmas.Bool.{cases_lt, lt-leb}
+use Rattle.std.proofs.KnownBytes.{Appends-kept, Appends-nil, Appends-trans}
+use Rattle.std.specs.Io.KnownBytes.{Appends, Keeps}
+use Rattle.refusal.specs.Chains.{and_then, refused_as, unless}
+use Rattle.words.specs.Lines.{no_empty, printable, words_in}
+use Rattle.ticket.specs.Refusals.{line_refusal}
+use Rattle.ticket.specs.declared.refusals.LineRefusal.TheVariants.{BadLine}
+use Rattle.script.specs.AnswerLines.{told_line}
+use Rattle.script.specs.Carrying.{carried, then_turn}
+use Rattle.script.specs.Opening.{begin}
+use Rattle.script.specs.Places.{in_place, opens, out_of_place, stands_right, misread_as}
+use Rattle.script.specs.Scripts.{Stage, answers, before, closed, during, first_passage, is_closed, passage, passed}
+use Rattle.steps.specs.Reading.{read_line}
+use Rattle.console.specs.Lines.{behind, cut, line_in, lines_in, onto_first}
+use Rattle.console.specs.Printing.{PrintsAnswers, text_of}
+use Rattle.console.specs.Reading.{is_any}
+
+-- ---- lines
+
+-- where there are bytes, there is a first line, and the others are behind it
+pub lines_parted : (x : ℕ) (xs : List ℕ) → lines_in (x ∷ xs) ≡ line_in (x ∷ xs) ∷ lines_in (behind (x ∷ xs))
+lines_parted x [] = at (eqb x 10)
+  where
+    at : (b : Bool) → cond b ([] ∷ []) ((x ∷ []) ∷ []) ≡ cond b [] (x ∷ []) ∷ lines_in (cond b [] [])
+    at true = refl
+    at false = refl
+lines_parted x (y ∷ ys) = at (eqb x 10) (lines_parted y ys)
+  where
+    at : (b : Bool) → lines_in (y ∷ ys) ≡ line_in (y ∷ ys) ∷ lines_in (behind (y ∷ ys))
+        → cond b ([] ∷ lines_in (y ∷ ys)) (onto_first x (lines_in (y ∷ ys)))
+        ≡ cond b [] (x ∷ line_in (y ∷ ys)) ∷ lines_in (cond b (y ∷ ys) (behind (y ∷ ys)))
+    at true next = refl
+    at false next = ap (onto_first x) next
+
+-- ---- results
+
+-- what holds of an answer that came through with another error
+pub came_through : {A E D : Type 0} (r : Result A E) (told : Result A D) (Q : E → D → Type 0) (x : A) (P : A → Type 0)
+    → MatchResult r (λ y. told ≡ Ok y) (λ e. IsErrAnd told (Q e)) → told ≡ Ok x → IfOk r P → P x
+came_through (Ok y) told Q x P cases was holds = let same : y ≡ x = cc in subst P same holds
+came_through (Err e) told Q x P cases was holds = absurd (rw was at cases)
+
+-- what holds anyway holds of an answer
+pub on_ok : {A E P : Type 0} (r : Result A E) → P → OnOk r P
+on_ok (Ok x) holds = holds
+on_ok (Err e) holds = tt
+
+-- ---- lines that are too long
+
+too_long : (first : Bool) (line : List ℕ) → 255 < length line → in_place first line ≡ Err (BadLine 0)
+too_long first line long =
+    ap (λ b. unless (b && (printable line && no_empty (words_in line))) (BadLine 0)
+    (unless (stands_right first (opens line)) out_of_place (refused_as misread_as (read_line line)))) (lt-leb (length line) 255 long)
+
+same_place : (s : Stage) (line other : List ℕ) → ((first : Bool) → in_place first line ≡ in_place first other) → passed s line ≡ passed s other
+same_place (before m) line other same = ap (λ r. first_passage (and_then (refused_as line_refusal r) (begin m))) (same true)
+same_place (during s) line other same = ap (λ r. passage (then_turn s r (carried s)).told (during (then_turn s r (carried s)).after)) (same false)
+same_place closed line other same = refl
+
+-- what was cut comes to the same, since it is too long as well
+passed_cut : (s : Stage) (line : List ℕ) → passed s (cut line) ≡ passed s line
+passed_cut s line = ⊎_elim long short (cases_lt 255 (length line))
+  where
+    long : 255 < length line → passed s (cut line) ≡ passed s line
+    long more =
+        let still : 255 < length (cut line) = omega (arith, length-take 256 line) in
+        same_place s (cut line) line (λ first. too_long first (cut line) still ∙ sym (too_long first line more))
+
+    short : length line ≤ 255 → passed s (cut line) ≡ passed s line
+    short fits = ap (passed s) (take_all 256 line (omega arith))
+
+-- ---- answers
+
+one_more : (b : Bool) (told : List ℕ) (lines : List (List ℕ)) → b ≡ false → text_of (cond b [] (told ∷ lines)) ≡ text_of (cond b [] (told ∷ [])) ++ text_of lines
+one_more true told lines takes = absurd (cc)
+one_more false told lines takes = sym (append_assoc told (10 ∷ []) (text_of lines))
+
+-- the answer to a line is that to what was kept of it, and the others follow
+text_parted : (s : Stage) (line : List ℕ) (lines : List (List ℕ)) → is_closed s ≡ false
+    → text_of (answers s (line ∷ lines)) ≡ text_of (answers s (cut line ∷ [])) ++ text_of (answers (passed s (cut line)).after lines)
+text_parted s line lines takes =
+    ap (λ p. text_of (cond (is_closed s) [] (told_line p.told ∷ answers p.after lines))) (sym (passed_cut s line))
+    ∙ one_more (is_closed s) (told_line (passed s (cut line)).told) (answers (passed s (cut line)).after lines) takes
+
+no_more : (s : Stage) (lines : List (List ℕ)) → is_closed s ≡ true → answers s lines ≡ []
+no_more s [] shut = refl
+no_more s (line ∷ lines) shut = ap (λ b. cond b [] (told_line (passed s line).told ∷ answers (passed s line).after lines)) shut
+
+-- ---- all lines
+
+-- what is printed so far, and what is still to be printed, are together the answers to all lines
+pub record Printed (s : Stage) (input output : Option (List ℕ)) (now : Stage) (left held : Option (List ℕ)) : Type 0 where
+  pub bytes : List ℕ
+  pub printed : Appends output held bytes
+  pub still : IfSome input (λ xs. (ys : List ℕ) × (left ≡ Some ys) × (text_of (answers s (lines_in xs)) ≡ bytes ++ text_of (answers now (lines_in ys))))
+
+pub nothing_printed : (s : Stage) (input output : Option (List ℕ)) → Printed s input output s input output
+nothing_printed s input output = record { bytes = []; printed = Appends-nil output; still = all input }
+  where
+    all : (input : Option (List ℕ)) → IfSome input (λ xs. (ys : List ℕ) × (input ≡ Some ys) × (text_of (answers s (lines_in xs)) ≡ [] ++ text_of (answers s (lines_in ys))))
+    all None = tt
+    all (Some xs) = (xs, refl, refl)
+
+-- one more line, and then its answer
+pub line_printed : (s : Stage) (input output : Option (List ℕ)) (now after : Stage) (left rest held more : Option (List ℕ)) (kept : List ℕ) (any : Bool)
+    → Printed s input output now left held → is_closed now ≡ false → any ≡ true
+    → IfSome left (λ xs. any ≡ is_any xs) → IfSome left (λ xs. kept ≡ cut (line_in xs)) → IfSome left (λ xs. rest ≡ Some (behind xs))
+    → Appends held more (text_of (answers now (kept ∷ []))) → after ≡ (passed now kept).after
+    → Printed s input output after rest more
+line_printed s input output now after left rest held more kept any so_far takes is_line tells is behind_it adds goes =
+    record {
+      bytes = so_far.bytes ++ told;
+      printed = Appends-trans output held more so_far.bytes told so_far.printed adds;
+      still = all input so_far.still;
+    }
+  where
+    told : List ℕ
+    told = text_of (answers now (kept ∷ []))
+
+    parted : (ys : List ℕ) → true ≡ is_any ys → kept ≡ cut (line_in ys) → text_of (answers now (lines_in ys)) ≡ told ++ text_of (answers after (lines_in (behind ys)))
+    parted [] some line = absurd (cc)
+    parted (y ∷ ys) some line =
+        ap (λ lines. text_of (answers now lines)) (lines_parted y ys) ∙ text_parted now (line_in (y ∷ ys)) (lines_in (behind (y ∷ ys))) takes
+        ∙ ap (λ k. text_of (answers now (k ∷ [])) ++ text_of (answers (passed now k).after (lines_in (behind (y ∷ ys))))) (sym line)
+        ∙ ap (λ t. told ++ text_of (answers t (lines_in (behind (y ∷ ys))))) (sym goes)
+
+    all : (input : Option (List ℕ)) → IfSome input (λ xs. (ys : List ℕ) × (left ≡ Some ys) × (text_of (answers s (lines_in xs)) ≡ so_far.bytes ++ text_of (answers now (lines_in ys))))
+        → IfSome input (λ xs. (ys : List ℕ) × (rest ≡ Some ys) × (text_of (answers s (lines_in xs)) ≡ (so_far.bytes ++ told) ++ text_of (answers after (lines_in ys))))
+    all None h = tt
+    all (Some xs) (ys, known, same) =
+        let tells_here : any ≡ is_any ys = subst (λ o. IfSome o (λ xs. any ≡ is_any xs)) known tells in
+        let line_here : kept ≡ cut (line_in ys) = subst (λ o. IfSome o (λ xs. kept ≡ cut (line_in xs))) known is in (
+          behind ys,
+          subst (λ o. IfSome o (λ xs. rest ≡ Some (behind xs))) known behind_it,
+          same ∙ ap (λ l. so_far.bytes ++ l) (parted ys (sym is_line ∙ tells_here) line_here) ∙ sym (append_assoc so_far.bytes told (text_of (answers after (lines_in (behind ys))))),
+        )
+
+-- where no line is answered any more, all are
+pub all_printed : (s : Stage) (input output : Option (List ℕ)) (now : Stage) (left held last : Option (List ℕ)) → Printed s input output now left held
+    → IfSome left (λ ys. answers now (lines_in ys) ≡ []) → Keeps held last → PrintsAnswers s input output last
+all_printed s None output now left held last so_far none kept = tt
+all_printed s (Some xs) output now left held last so_far none kept = at so_far.still
+  where
+    at : (ys : List ℕ) × (left ≡ Some ys) × (text_of (answers s (lines_in xs)) ≡ so_far.bytes ++ text_of (answers now (lines_in ys)))
+        → Appends output last (text_of (answers s (lines_in xs)))
+    at (ys, known, same) =
+        let here : answers now (lines_in ys) ≡ [] = subst (λ o. IfSome o (λ ys. answers now (lines_in ys) ≡ [])) known none in
+        subst (Appends output last) (sym (same ∙ ap (λ l. so_far.bytes ++ text_of l) here ∙ append-nil so_far.bytes)) (Appends-kept output held last so_far.bytes so_far.printed kept)
+
+pub closed_none : (s : Stage) (left : Option (List ℕ)) → is_closed s ≡ true → IfSome left (λ ys. answers s (lines_in ys) ≡ [])
+closed_none s None shut = tt
+closed_none s (Some ys) shut = no_more s (lines_in ys) shut
+
+pub empty_none : (s : Stage) (left : Option (List ℕ)) (any : Bool) → any ≡ false → IfSome left (λ xs. any ≡ is_any xs) → IfSome left (λ ys. answers s (lines_in ys) ≡ [])
+empty_none s None any none tells = tt
+empty_none s (Some []) any none tells = refl
+empty_none s (Some (y ∷ ys)) any none tells = absurd (cc)

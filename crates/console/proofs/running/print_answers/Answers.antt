@@ -1,0 +1,48 @@
+use Rattle.std.proofs.Common.{◌≡◌, ◌∷◌, ◌∙◌, [], Some, IfSome, false, sym, ap, subst}
+use Rattle.std.specs.Io.Buffered.{reader_remaining}
+use Rattle.std.specs.Io.KnownBytes.{Appends}
+use Rattle.std.proofs.KnownBytes.{Appends-kept}
+use Rattle.memory.specs.Held.{content}
+use Rattle.script.specs.Beginning.{stage_of}
+use Rattle.script.specs.Scripts.{answers, is_closed, passed}
+use Rattle.console.specs.Lines.{behind, cut, line_in}
+use Rattle.console.specs.Printing.{text_of}
+use Rattle.console.specs.Reading.{is_any, kept}
+use Rattle.console.proofs.PrintFacts.{all_printed, came_through, closed_none, empty_none, line_printed, nothing_printed, on_ok}
+use Rattle.console.proofs.running.print_answers.Goals.{then-is_closed-via-then-is_closed, then-is_closed-via-else-is_closed+in_ok-map_err+then-not-branch, then-is_empty+in_ok-map_err-2, else-is_empty}
+use Rattle.console.proofs.running.print_answers.Goals as goal
+
+pub loop-init : goal.loop-init
+loop-init g c = nothing_printed _ _ _
+
+pub returns-then-is_closed : goal.returns-then-is_closed
+returns-then-is_closed g c =
+    let now = stage_of c.loop.script (content c.loop.memory) in
+    let left = reader_remaining g.R.Read.remaining c.loop.input in
+    on_ok c.map_err-then-is_closed.result (all_printed _ _ _ now left _ _ c.loop.invariant
+    (elim c.then-is_closed.branch [
+      | then-is_closed-via-then-is_closed w ↦ closed_none now left (sym (c.is_closed.ensures (content c.loop.memory)) ∙ w.if-is_closed.true)
+      | then-is_closed-via-else-is_closed+in_ok-map_err+then-not-branch w ↦
+          empty_none now left w.in_ok-map_err.field-0 w.if-not-branch.true
+          (came_through w.read.result w.map_err.result _ w.in_ok-map_err.field-0 (λ any. IfSome left (λ xs. any ≡ is_any xs)) w.map_err.ensures.cases w.in_ok-map_err.was w.read.ensures.any)
+    ]) c.flush.ensures.bytes)
+
+pub loop-preserved : goal.loop-preserved
+loop-preserved g c =
+    let now = stage_of c.loop.script (content c.loop.memory) in
+    let left = reader_remaining g.R.Read.remaining c.loop.input in
+    let rest = reader_remaining g.R.Read.remaining c.read.new.input in
+    let line = kept c.read.new.self in
+    let held = g.W.Write.contents c.loop.output in
+    let takes : is_closed now ≡ false = sym (c.is_closed.ensures (content c.loop.memory)) ∙ c.if-is_closed.false in
+    let told = c.in_ok-map_err.field-0 in
+    let tells = came_through c.read.result c.map_err.result _ told (λ any. IfSome left (λ xs. any ≡ is_any xs)) c.map_err.ensures.cases c.in_ok-map_err.was c.read.ensures.any in
+    let is = came_through c.read.result c.map_err.result _ told (λ any. IfSome left (λ xs. line ≡ cut (line_in xs))) c.map_err.ensures.cases c.in_ok-map_err.was c.read.ensures.line in
+    let behind_it = came_through c.read.result c.map_err.result _ told (λ any. IfSome left (λ xs. rest ≡ Some (behind xs))) c.map_err.ensures.cases c.in_ok-map_err.was c.read.ensures.rest in
+    let printed = subst (λ l. Appends held (g.W.Write.contents c.print_answer.new.output) (text_of (answers now (l ∷ [])))) c.bytes.ensures.value c.in_ok-print_answer.ensures.prints in
+    let adds : Appends held (g.W.Write.contents c.if-is_empty.output) (text_of (answers now (line ∷ []))) = elim c.if-is_empty.branch [
+      | then-is_empty+in_ok-map_err-2 w ↦ rw w.output-is (Appends-kept held _ _ _ printed w.flush-then-is_empty.ensures.bytes)
+      | else-is_empty w ↦ rw w.output-is printed
+    ] in
+    let goes = c.print_answer.ensures.stage ∙ ap (λ l. (passed now l).after) c.bytes.ensures.value in
+    line_printed _ _ _ now _ left rest held _ line told c.loop.invariant takes c.if-not-branch.false tells is behind_it adds goes
