@@ -41,8 +41,9 @@ loop-preserved g c =
     let behind_it = came_through c.read.result c.map_err.result _ told (λ any. IfSome left (λ xs. rest ≡ Some (behind xs))) c.map_err.ensures.cases c.in_ok-map_err.was c.read.ensures.rest in
     let printed = subst (λ l. Appends held (g.W.Write.contents c.print_answer.new.output) (text_of (answers now (l ∷ [])))) c.bytes.ensures.value c.in_ok-print_answer.ensures.prints in
     let adds : Appends held (g.W.Write.contents c.if-is_empty.output) (text_of (answers now (line ∷ []))) = elim c.if-is_empty.branch [
-      | then-is_empty+in_ok-map_err-2 w ↦ rw w.output-is (Appends-kept held _ _ _ printed w.flush-then-is_empty.ensures.bytes)
+      | then-is_empty+in_ok-map_err-2 w ↦ rw w.output-is (Appends-kept held (g.W.Write.contents c.print_answer.new.output) _ (text_of (answers now (line ∷ []))) printed w.flush-then-is_empty.ensures.bytes)
       | else-is_empty w ↦ rw w.output-is printed
     ] in
     let goes = c.print_answer.ensures.stage ∙ ap (λ l. (passed now l).after) c.bytes.ensures.value in
-    line_printed _ _ _ now _ left rest held _ line told c.loop.invariant takes c.if-not-branch.false tells is behind_it adds goes
+    let next = stage_of c.print_answer.new.script (content c.print_answer.new.memory) in
+    line_printed _ _ _ now next left rest held (g.W.Write.contents c.if-is_empty.output) line told c.loop.invariant takes c.if-not-branch.false tells is behind_it adds goes
