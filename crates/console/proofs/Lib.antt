@@ -1,3 +1,4 @@
+pub mod LawFacts
 pub mod LineFacts
 pub mod PrintFacts
 pub mod RoomFacts

@@ -13,8 +13,8 @@ use Rattle.script.specs.Opening.{begin}
 use Rattle.script.specs.Places.{in_place, opens, out_of_place, stands_right, misread_as}
 use Rattle.script.specs.Scripts.{Stage, answers, before, closed, during, first_passage, is_closed, passage, passed}
 use Rattle.steps.specs.Reading.{read_line}
-use Rattle.console.specs.Lines.{behind, cut, line_in, lines_in, onto_first}
-use Rattle.console.specs.Printing.{PrintsAnswers, text_of}
+use Rattle.console.specs.Lines.{behind, cut, line_in, lines_in, onto_first, text_of}
+use Rattle.console.specs.Printing.{PrintsAnswers}
 use Rattle.console.specs.Reading.{is_any}
 
 -- ---- lines

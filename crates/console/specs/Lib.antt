@@ -1,3 +1,4 @@
+pub mod LineLaw
 pub mod Lines
 pub mod Printing
 pub mod Reading

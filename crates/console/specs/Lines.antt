@@ -1,5 +1,5 @@
 -- The lines of a script. Only a line feed, byte 10, ends a line.
-use Rattle.std.specs.Prelude.{ℕ, List, [], ◌∷◌, take, ◌==◌, if◌then◌else◌}
+use Rattle.std.specs.Prelude.{ℕ, List, [], ◌∷◌, ◌++◌, take, ◌==◌, if◌then◌else◌}
 
 -- the first line: the bytes before the first line feed, or all of them
 abbrev pub line_in : List ℕ → List ℕ
@@ -24,3 +24,8 @@ lines_in (x ∷ xs) = if x == 10 then [] ∷ lines_in xs else onto_first x (line
 -- what is kept of a line: its first 256 bytes
 abbrev pub cut : List ℕ → List ℕ
 cut line = take 256 line
+
+-- lines, each with a line feed behind it
+abbrev pub text_of : List (List ℕ) → List ℕ
+text_of [] = []
+text_of (line ∷ lines) = line ++ (10 ∷ text_of lines)

@@ -1,5 +1,7 @@
 //! Running a script.
-ghost use Rattle.console.specs.Printing.{PrintsAnswers, text_of};
+ghost use Rattle.console.specs.LineLaw.{LawOfLines};
+ghost use Rattle.console.specs.Lines.{text_of};
+ghost use Rattle.console.specs.Printing.{PrintsAnswers};
 ghost use Rattle.console.specs.Rooms.{held_in};
 ghost use Rattle.memory.specs.Held.{content};
 ghost use Rattle.script.specs.Beginning.{stage_of};
@@ -57,12 +59,14 @@ fn print_answers<R: Read + Drop, W: Write>(
 }
 
 /// Answers each line of a script, in order, until a first line is refused. Each answer is on its way before more input is waited for.
+#[tactic(auto, using(crate::proofs::LawFacts::law_of_lines))]
 pub fn run<R: Read + Drop, W: Write>(
     input: &mut BufReader<R>,
     output: &mut W,
     room: &mut Room,
 ) -> Result<(), RunError>
-    ensures { OnOk result (PrintsAnswers (before (held_in room.old)) (reader_remaining R.remaining input.old) (W.contents output.old) (W.contents output.new)) }
+    ensures prints { OnOk result (PrintsAnswers (before (held_in room.old)) (reader_remaining R.remaining input.old) (W.contents output.old) (W.contents output.new)) }
+    ensures law { LawOfLines }
 {
     let mut memory = Memory {
         files: &mut room.files,

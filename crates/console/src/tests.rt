@@ -1,6 +1,6 @@
 //! Scripts from memory to memory: lines at their edges, and readers that give few bytes at a time.
 use crate::{Room, RunError, run};
-use std::io::BufReader;
+use std::io::{self, BufReader, Write};
 use std::test::Fail;
 
 const STORE: &[u8] = b"store P 2147483647 50554d503031 7\n";
@@ -109,6 +109,36 @@ fn a_refused_first_line_ends_the_script(rt: HostRuntime) -> Result<(), RunError>
         let mut output = Vec::new(alloc);
         run(&mut input, &mut output, &mut room)?;
         assert!(rt; output.as_slice() == lines);
+    }
+    Ok(())
+}
+
+/// A writer that counts how often it is flushed.
+#[derive(Drop)]
+struct Flushed {
+    times: u64,
+}
+
+impl Write for Flushed {
+    fn write(&mut self, buf: &[u8]) -> io::Result<usize> {
+        Ok(buf.len())
+    }
+
+    fn flush(&mut self) -> io::Result<()> {
+        self.times = self.times.saturating_add(1);
+        Ok(())
+    }
+}
+
+#[test]
+fn answers_are_flushed_where_no_input_is_at_hand(rt: HostRuntime) -> Result<(), RunError> {
+    let alloc = rt.alloc();
+    let script = b"store P 2147483647 50554d503031 7\nsize A0\nsize A0\n".as_slice();
+    for (ahead, times) in [(1usize, 4u64), (8192, 2)] {
+        let mut input = BufReader::with_capacity(alloc, ahead, script).map_err(RunError::Input)?;
+        let mut output = Flushed { times: 0 };
+        run(&mut input, &mut output, &mut Room::new(alloc)?)?;
+        assert_eq!(rt; output.times, times);
     }
     Ok(())
 }

@@ -5,8 +5,7 @@ use Rattle.std.proofs.KnownBytes.{Appends-kept}
 use Rattle.memory.specs.Held.{content}
 use Rattle.script.specs.Beginning.{stage_of}
 use Rattle.script.specs.Scripts.{answers, is_closed, passed}
-use Rattle.console.specs.Lines.{behind, cut, line_in}
-use Rattle.console.specs.Printing.{text_of}
+use Rattle.console.specs.Lines.{behind, cut, line_in, text_of}
 use Rattle.console.specs.Reading.{is_any, kept}
 use Rattle.console.proofs.PrintFacts.{all_printed, came_through, closed_none, empty_none, line_printed, nothing_printed, on_ok}
 use Rattle.console.proofs.running.print_answers.Goals.{then-is_closed-via-then-is_closed, then-is_closed-via-else-is_closed+in_ok-map_err+then-not-branch, then-is_empty+in_ok-map_err-2, else-is_empty}
