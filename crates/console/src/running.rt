@@ -22,6 +22,7 @@ use ticket::{Desk, LEAST};
 fn print_answer<W: Write>(
     script: &mut Script,
     memory: &mut Memory,
+    desk: &mut Desk,
     line: &[u8],
     output: &mut W,
 ) -> Result<(), RunError>
@@ -29,7 +30,7 @@ fn print_answer<W: Write>(
     ensures stage { stage_of script.new (content memory.new) ≡ behind (stage_of script.old (content memory.old)) (line.now ∷ []) }
 {
     let mut out = [0; LEAST];
-    if let Ok(Some(length)) = script.answer(memory, &mut Desk, line, &mut out) {
+    if let Ok(Some(length)) = script.answer(memory, desk, line, &mut out) {
         out[length] = b'\n';
         output.write_all(&out[..=length]).map_err(RunError::Output)?;
     }
@@ -45,12 +46,13 @@ fn print_answers<R: Read + Drop, W: Write>(
     ensures { OnOk result (PrintsAnswers (before (content memory.old)) (reader_remaining R.remaining input.old) (W.contents output.old) (W.contents output.new)) }
 {
     let mut script = Script::Waiting;
+    let mut desk = Desk;
     let mut line = Line::new();
     for _ in 0..u64::MAX {
         if script.is_closed() || !line.read(input).map_err(RunError::Input)? {
             return output.flush().map_err(RunError::Output);
         }
-        print_answer(&mut script, memory, line.bytes(), output)?;
+        print_answer(&mut script, memory, &mut desk, line.bytes(), output)?;
         if input.buffer().is_empty() {
             output.flush().map_err(RunError::Output)?;
         }
