@@ -142,3 +142,21 @@ fn answers_are_flushed_where_no_input_is_at_hand(rt: HostRuntime) -> Result<(), 
     }
     Ok(())
 }
+
+#[test]
+fn lines_behind_a_refused_first_one_are_left_in_the_reader(
+    rt: HostRuntime,
+) -> Result<(), RunError> {
+    let alloc = rt.alloc();
+    let mut room = Room::new(alloc)?;
+    for ahead in [1usize, 8192] {
+        let script = b"size A0\nsize A0\n".as_slice();
+        let mut input = BufReader::with_capacity(alloc, ahead, script).map_err(RunError::Input)?;
+        for lines in [b"no 30 L 1\n".as_slice(), b"no 30 L 1\n", b""] {
+            let mut output = Vec::new(alloc);
+            run(&mut input, &mut output, &mut room)?;
+            assert!(rt; output.as_slice() == lines);
+        }
+    }
+    Ok(())
+}
