@@ -3,6 +3,7 @@ use Rattle.std.proofs.Common.{◌≡◌, ℕ, ◌<◌, ◌≤◌, Bool, true, fa
 use Rattle.std.proofs.lemmas.Bool.{cases_lt, lt-leb}
 use Rattle.std.proofs.KnownBytes.{Appends-kept, Appends-nil, Appends-trans}
 use Rattle.std.specs.Io.KnownBytes.{Appends, Keeps}
+use Rattle.std.specs.Option.{option_map}
 use Rattle.refusal.specs.Chains.{and_then, refused_as, unless}
 use Rattle.words.specs.Lines.{no_empty, printable, words_in}
 use Rattle.ticket.specs.Refusals.{line_refusal}
@@ -14,7 +15,7 @@ use Rattle.script.specs.Places.{in_place, opens, out_of_place, stands_right, mis
 use Rattle.script.specs.Scripts.{Stage, answers, before, closed, during, first_passage, is_closed, passage, passed}
 use Rattle.steps.specs.Reading.{read_line}
 use Rattle.console.specs.Lines.{behind, cut, line_in, lines_in, onto_first, text_of}
-use Rattle.console.specs.Printing.{PrintsAnswers}
+use Rattle.console.specs.Printing.{PrintsAnswers, unread}
 use Rattle.console.specs.Reading.{is_any}
 
 -- ---- lines
@@ -94,14 +95,16 @@ no_more s (line ∷ lines) shut = ap (λ b. cond b [] (told_line (passed s line)
 pub record Printed (s : Stage) (input output : Option (List ℕ)) (now : Stage) (left held : Option (List ℕ)) : Type 0 where
   pub bytes : List ℕ
   pub printed : Appends output held bytes
-  pub still : IfSome input (λ xs. (ys : List ℕ) × (left ≡ Some ys) × (text_of (answers s (lines_in xs)) ≡ bytes ++ text_of (answers now (lines_in ys))))
+  pub still : IfSome input (λ xs. (ys : List ℕ) × (left ≡ Some ys) × (text_of (answers s (lines_in xs)) ≡ bytes ++ text_of (answers now (lines_in ys)))
+      × (unread s (lines_in xs) ≡ unread now (lines_in ys)))
 
 pub nothing_printed : (s : Stage) (input output : Option (List ℕ)) → Printed s input output s input output
 nothing_printed s input output = record { bytes = []; printed = Appends-nil output; still = all input }
   where
-    all : (input : Option (List ℕ)) → IfSome input (λ xs. (ys : List ℕ) × (input ≡ Some ys) × (text_of (answers s (lines_in xs)) ≡ [] ++ text_of (answers s (lines_in ys))))
+    all : (input : Option (List ℕ)) → IfSome input (λ xs. (ys : List ℕ) × (input ≡ Some ys) × (text_of (answers s (lines_in xs)) ≡ [] ++ text_of (answers s (lines_in ys)))
+        × (unread s (lines_in xs) ≡ unread s (lines_in ys)))
     all None = tt
-    all (Some xs) = (xs, refl, refl)
+    all (Some xs) = (xs, refl, refl, refl)
 
 -- one more line, and then its answer
 pub line_printed : (s : Stage) (input output : Option (List ℕ)) (now after : Stage) (left rest held more : Option (List ℕ)) (kept : List ℕ) (any : Bool)
@@ -126,34 +129,56 @@ line_printed s input output now after left rest held more kept any so_far takes 
         ∙ ap (λ k. text_of (answers now (k ∷ [])) ++ text_of (answers (passed now k).after (lines_in (behind (y ∷ ys))))) (sym line)
         ∙ ap (λ t. told ++ text_of (answers t (lines_in (behind (y ∷ ys))))) (sym goes)
 
-    all : (input : Option (List ℕ)) → IfSome input (λ xs. (ys : List ℕ) × (left ≡ Some ys) × (text_of (answers s (lines_in xs)) ≡ so_far.bytes ++ text_of (answers now (lines_in ys))))
-        → IfSome input (λ xs. (ys : List ℕ) × (rest ≡ Some ys) × (text_of (answers s (lines_in xs)) ≡ (so_far.bytes ++ told) ++ text_of (answers after (lines_in ys))))
+    -- the line was read, so it is not among those that are left
+    unread_on : (ys : List ℕ) → true ≡ is_any ys → kept ≡ cut (line_in ys) → unread now (lines_in ys) ≡ unread after (lines_in (behind ys))
+    unread_on [] some line = absurd (cc)
+    unread_on (y ∷ ys) some line =
+        ap (unread now) (lines_parted y ys)
+        ∙ ap (λ b. cond b (line_in (y ∷ ys) ∷ lines_in (behind (y ∷ ys))) (unread (passed now (line_in (y ∷ ys))).after (lines_in (behind (y ∷ ys))))) takes
+        ∙ ap (λ p. unread p.after (lines_in (behind (y ∷ ys)))) (sym (passed_cut now (line_in (y ∷ ys))))
+        ∙ ap (λ k. unread (passed now k).after (lines_in (behind (y ∷ ys)))) (sym line)
+        ∙ ap (λ t. unread t (lines_in (behind (y ∷ ys)))) (sym goes)
+
+    all : (input : Option (List ℕ)) → IfSome input (λ xs. (ys : List ℕ) × (left ≡ Some ys) × (text_of (answers s (lines_in xs)) ≡ so_far.bytes ++ text_of (answers now (lines_in ys)))
+        × (unread s (lines_in xs) ≡ unread now (lines_in ys)))
+        → IfSome input (λ xs. (ys : List ℕ) × (rest ≡ Some ys) × (text_of (answers s (lines_in xs)) ≡ (so_far.bytes ++ told) ++ text_of (answers after (lines_in ys)))
+        × (unread s (lines_in xs) ≡ unread after (lines_in ys)))
     all None h = tt
-    all (Some xs) (ys, known, same) =
+    all (Some xs) (ys, known, same, same_left) =
         let tells_here : any ≡ is_any ys = subst (λ o. IfSome o (λ xs. any ≡ is_any xs)) known tells in
         let line_here : kept ≡ cut (line_in ys) = subst (λ o. IfSome o (λ xs. kept ≡ cut (line_in xs))) known is in (
           behind ys,
           subst (λ o. IfSome o (λ xs. rest ≡ Some (behind xs))) known behind_it,
           same ∙ ap (λ l. so_far.bytes ++ l) (parted ys (sym is_line ∙ tells_here) line_here) ∙ sym (append_assoc so_far.bytes told (text_of (answers after (lines_in (behind ys))))),
+          same_left ∙ unread_on ys (sym is_line ∙ tells_here) line_here,
         )
 
--- where no line is answered any more, all are
-pub all_printed : (s : Stage) (input output : Option (List ℕ)) (now : Stage) (left held last : Option (List ℕ)) → Printed s input output now left held
-    → IfSome left (λ ys. answers now (lines_in ys) ≡ []) → Keeps held last → PrintsAnswers s input output last
-all_printed s None output now left held last so_far none kept = tt
-all_printed s (Some xs) output now left held last so_far none kept = at so_far.still
+-- where no line is answered any more, all are, and the others are left
+pub all_printed : (s : Stage) (input output : Option (List ℕ)) (now : Stage) (left rest held last : Option (List ℕ)) → Printed s input output now left held
+    → IfSome left (λ ys. (answers now (lines_in ys) ≡ []) × (option_map lines_in rest ≡ Some (unread now (lines_in ys)))) → Keeps held last → PrintsAnswers s input rest output last
+all_printed s None output now left rest held last so_far none kept = tt
+all_printed s (Some xs) output now left rest held last so_far none kept = at so_far.still
   where
-    at : (ys : List ℕ) × (left ≡ Some ys) × (text_of (answers s (lines_in xs)) ≡ so_far.bytes ++ text_of (answers now (lines_in ys)))
-        → Appends output last (text_of (answers s (lines_in xs)))
-    at (ys, known, same) =
-        let here : answers now (lines_in ys) ≡ [] = subst (λ o. IfSome o (λ ys. answers now (lines_in ys) ≡ [])) known none in
-        subst (Appends output last) (sym (same ∙ ap (λ l. so_far.bytes ++ text_of l) here ∙ append-nil so_far.bytes)) (Appends-kept output held last so_far.bytes so_far.printed kept)
+    at : (ys : List ℕ) × (left ≡ Some ys) × (text_of (answers s (lines_in xs)) ≡ so_far.bytes ++ text_of (answers now (lines_in ys))) × (unread s (lines_in xs) ≡ unread now (lines_in ys))
+        → Appends output last (text_of (answers s (lines_in xs))) × (option_map lines_in rest ≡ Some (unread s (lines_in xs)))
+    at (ys, known, same, same_left) =
+        let here : (answers now (lines_in ys) ≡ []) × (option_map lines_in rest ≡ Some (unread now (lines_in ys))) =
+        subst (λ o. IfSome o (λ ys. (answers now (lines_in ys) ≡ []) × (option_map lines_in rest ≡ Some (unread now (lines_in ys))))) known none in (
+          subst (Appends output last) (sym (same ∙ ap (λ l. so_far.bytes ++ text_of l) here.0 ∙ append-nil so_far.bytes)) (Appends-kept output held last so_far.bytes so_far.printed kept),
+          here.1 ∙ ap Some (sym same_left),
+        )
 
-pub closed_none : (s : Stage) (left : Option (List ℕ)) → is_closed s ≡ true → IfSome left (λ ys. answers s (lines_in ys) ≡ [])
+all_left : (s : Stage) (lines : List (List ℕ)) → is_closed s ≡ true → unread s lines ≡ lines
+all_left s [] shut = refl
+all_left s (line ∷ lines) shut = ap (λ b. cond b (line ∷ lines) (unread (passed s line).after lines)) shut
+
+pub closed_none : (s : Stage) (left : Option (List ℕ)) → is_closed s ≡ true
+    → IfSome left (λ ys. (answers s (lines_in ys) ≡ []) × (option_map lines_in left ≡ Some (unread s (lines_in ys))))
 closed_none s None shut = tt
-closed_none s (Some ys) shut = no_more s (lines_in ys) shut
+closed_none s (Some ys) shut = (no_more s (lines_in ys) shut, ap Some (sym (all_left s (lines_in ys) shut)))
 
-pub empty_none : (s : Stage) (left : Option (List ℕ)) (any : Bool) → any ≡ false → IfSome left (λ xs. any ≡ is_any xs) → IfSome left (λ ys. answers s (lines_in ys) ≡ [])
-empty_none s None any none tells = tt
-empty_none s (Some []) any none tells = refl
-empty_none s (Some (y ∷ ys)) any none tells = absurd (cc)
+pub empty_none : (s : Stage) (left rest : Option (List ℕ)) (any : Bool) → any ≡ false → IfSome left (λ xs. any ≡ is_any xs) → IfSome left (λ xs. rest ≡ Some (behind xs))
+    → IfSome left (λ ys. (answers s (lines_in ys) ≡ []) × (option_map lines_in rest ≡ Some (unread s (lines_in ys))))
+empty_none s None rest any none tells goes = tt
+empty_none s (Some []) rest any none tells goes = (refl, ap (option_map lines_in) goes)
+empty_none s (Some (y ∷ ys)) rest any none tells goes = absurd (cc)

@@ -1,9 +1,16 @@
 -- What is printed of a script, where the bytes of its reader and its writer are known.
-use Rattle.std.specs.Prelude.{ℕ, List, Option, IfSome}
+use Rattle.std.specs.Prelude.{◌≡◌, ℕ, cond, List, [], ◌∷◌, Option, Some, IfSome}
+use Rattle.std.specs.Option.{option_map}
 use Rattle.std.specs.Io.KnownBytes.{Appends}
-use Rattle.script.specs.Scripts.{Stage, answers}
+use Rattle.script.specs.Scripts.{Stage, answers, is_closed, passed}
 use Rattle.console.specs.Lines.{lines_in, text_of}
 
--- behind what the writer held come the answer lines of all lines that the reader had, and nothing else
-abbrev pub PrintsAnswers : Stage → Option (List ℕ) → Option (List ℕ) → Option (List ℕ) → Type 0
-PrintsAnswers s input was is = IfSome input (λ xs. Appends was is (text_of (answers s (lines_in xs))))
+-- the lines that are left in the reader: those behind a first line that is refused, and else none
+abbrev pub unread : Stage → List (List ℕ) → List (List ℕ)
+unread s [] = []
+unread s (line ∷ lines) = cond (is_closed s) (line ∷ lines) (unread (passed s line).after lines)
+
+-- behind what the writer held come the answer lines of all lines that the reader had, and nothing else; and no line is read that is not answered
+abbrev pub PrintsAnswers : Stage → Option (List ℕ) → Option (List ℕ) → Option (List ℕ) → Option (List ℕ) → Type 0
+PrintsAnswers s input left was is =
+    IfSome input (λ xs. Appends was is (text_of (answers s (lines_in xs))) × (option_map lines_in left ≡ Some (unread s (lines_in xs))))

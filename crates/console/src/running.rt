@@ -43,7 +43,7 @@ fn print_answers<R: Read + Drop, W: Write>(
     input: &mut BufReader<R>,
     output: &mut W,
 ) -> Result<(), RunError>
-    ensures { OnOk result (PrintsAnswers (before (content memory.old)) (reader_remaining R.remaining input.old) (W.contents output.old) (W.contents output.new)) }
+    ensures { OnOk result (PrintsAnswers (before (content memory.old)) (reader_remaining R.remaining input.old) (reader_remaining R.remaining input.new) (W.contents output.old) (W.contents output.new)) }
 {
     let mut script = Script::Waiting;
     let mut desk = Desk;
@@ -67,7 +67,7 @@ pub fn run<R: Read + Drop, W: Write>(
     output: &mut W,
     room: &mut Room,
 ) -> Result<(), RunError>
-    ensures prints { OnOk result (PrintsAnswers (before (held_in room.old)) (reader_remaining R.remaining input.old) (W.contents output.old) (W.contents output.new)) }
+    ensures prints { OnOk result (PrintsAnswers (before (held_in room.old)) (reader_remaining R.remaining input.old) (reader_remaining R.remaining input.new) (W.contents output.old) (W.contents output.new)) }
     ensures law { LawOfLines }
 {
     let mut memory = Memory {

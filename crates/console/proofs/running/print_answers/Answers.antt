@@ -18,12 +18,14 @@ pub returns-then-is_closed : goal.returns-then-is_closed
 returns-then-is_closed g c =
     let now = stage_of c.loop.script (content c.loop.memory) in
     let left = reader_remaining g.R.Read.remaining c.loop.input in
-    on_ok c.map_err-then-is_closed.result (all_printed _ _ _ now left _ _ c.loop.invariant
+    let last = reader_remaining g.R.Read.remaining c.then-is_closed.input in
+    on_ok c.map_err-then-is_closed.result (all_printed _ _ _ now left last _ _ c.loop.invariant
     (elim c.then-is_closed.branch [
-      | then-is_closed-via-then-is_closed w ↦ closed_none now left (sym (c.is_closed.ensures (content c.loop.memory)) ∙ w.if-is_closed.true)
-      | then-is_closed-via-else-is_closed+in_ok-map_err+then-not-branch w ↦
-          empty_none now left w.in_ok-map_err.field-0 w.if-not-branch.true
+      | then-is_closed-via-then-is_closed w ↦ rw w.input-is (closed_none now left (sym (c.is_closed.ensures (content c.loop.memory)) ∙ w.if-is_closed.true))
+      | then-is_closed-via-else-is_closed+in_ok-map_err+then-not-branch w ↦ rw w.input-is (
+          empty_none now left (reader_remaining g.R.Read.remaining w.read.new.input) w.in_ok-map_err.field-0 w.if-not-branch.true
           (came_through w.read.result w.map_err.result _ w.in_ok-map_err.field-0 (λ any. IfSome left (λ xs. any ≡ is_any xs)) w.map_err.ensures.cases w.in_ok-map_err.was w.read.ensures.any)
+          (came_through w.read.result w.map_err.result _ w.in_ok-map_err.field-0 (λ any. IfSome left (λ xs. reader_remaining g.R.Read.remaining w.read.new.input ≡ Some (behind xs))) w.map_err.ensures.cases w.in_ok-map_err.was w.read.ensures.rest))
     ]) c.flush.ensures.bytes)
 
 pub loop-preserved : goal.loop-preserved
