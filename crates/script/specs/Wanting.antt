@@ -1,49 +1,22 @@
 -- What a step wants: the capability that it presents, the one that it names beside that, what it asks of the store, and the
 -- pocket that it fills.
-use Rattle.std.specs.Prelude.{ℕ, List, replicate, Some, None, Option}
+use Rattle.std.specs.Prelude.{ℕ, List, replicate, Some, None, Option, slice_get}
 use Rattle.holder.specs.Bytes.{number}
 use Rattle.holder.specs.declared.capability.Capability.{Capability}
 use Rattle.memory.specs.declared.records.Masks.{Masks}
 use Rattle.secret.specs.declared.secrets.Secret.{Secret}
 use Rattle.store.specs.Requests.{Ask, create_file, create_directory, read, size, look_up, walk, row, name, enter, remove, destroy, revoke}
 use Rattle.steps.specs.Asked.{Asked, ToStore, ToFile, ToDirectory, ToRead, ToSize, ToDrop, ToGive, ToEnter, ToRemove, ToLookUp, ToWalk, ToRow, ToName, ToDestroy, ToRevoke}
+use Rattle.steps.specs.Spelled.{sources}
 use Rattle.words.specs.declared.forms.Pocket.{Pocket}
 
--- the pocket of the capability presented; the line that opens a store presents none
+-- the pocket of the capability presented: the first one that is read; the line that opens a store reads none
 abbrev pub presented : Asked → Option Pocket
-presented (ToStore family modulus port secret) = None
-presented (ToFile under secret text to) = Some under
-presented (ToDirectory under secret to) = Some under
-presented (ToRead run) = Some run
-presented (ToSize run) = Some run
-presented (ToDrop from right to) = Some from
-presented (ToGive from to) = Some from
-presented (ToEnter directory called entry works inspector buyer) = Some directory
-presented (ToRemove directory called) = Some directory
-presented (ToLookUp directory called to) = Some directory
-presented (ToWalk directory path to) = Some directory
-presented (ToRow directory n) = Some directory
-presented (ToName directory entry) = Some directory
-presented (ToDestroy object) = Some object
-presented (ToRevoke object secret to) = Some object
+presented step = slice_get (sources step) 0
 
--- the pocket of the capability that is entered, or asked the name of
+-- the pocket of the capability that is entered, or asked the name of: the second one that is read
 abbrev pub named_beside : Asked → Option Pocket
-named_beside (ToStore family modulus port secret) = None
-named_beside (ToFile under secret text to) = None
-named_beside (ToDirectory under secret to) = None
-named_beside (ToRead run) = None
-named_beside (ToSize run) = None
-named_beside (ToDrop from right to) = None
-named_beside (ToGive from to) = None
-named_beside (ToEnter directory called entry works inspector buyer) = Some entry
-named_beside (ToRemove directory called) = None
-named_beside (ToLookUp directory called to) = None
-named_beside (ToWalk directory path to) = None
-named_beside (ToRow directory n) = None
-named_beside (ToName directory entry) = Some entry
-named_beside (ToDestroy object) = None
-named_beside (ToRevoke object secret to) = None
+named_beside step = slice_get (sources step) 1
 
 -- the pocket that is filled, where the step is not refused
 abbrev pub target : Asked → Option Pocket

@@ -12,7 +12,7 @@ ghost use Rattle.steps.specs.Asked.{asked};
 ghost use Rattle.store.specs.Held.{ask_of, tell_in};
 
 use crate::pockets::Pockets;
-use crate::wanting::{dropping, named_beside, presented, request, target};
+use crate::wanting::{dropping, request, target};
 use family::CommutingFamily;
 use holder::Capability;
 use memory::Memory;
@@ -114,8 +114,9 @@ impl<F: CommutingFamily> Session<F> {
         ensures outcome { turn (told_by (tell_in memory.new.rows.now memory.new.area.now) result) (state_of F.modulus_of F.function_of self.new (content memory.new)) ≡ carried (state_of F.modulus_of F.function_of self.old (content memory.old)) (asked step.entry) }
         ensures loan { SameLoan memory.old memory.new }
     {
-        let capability = self.pockets.first(presented(step))?;
-        let beside = self.pockets.second(named_beside(step), capability)?;
+        let [presented, beside] = step.sources();
+        let capability = self.pockets.first(presented)?;
+        let beside = self.pockets.second(beside, capability)?;
         let told = self.perform(memory, step, capability, beside);
         self.pockets.fill(target(step), told);
         told

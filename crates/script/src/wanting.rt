@@ -1,7 +1,7 @@
 //! What a step wants: by which capabilities, of the store, and for which pocket.
 ghost use Rattle.holder.specs.declared.capability.Capability.{Capability};
 ghost use Rattle.script.specs.Carrying.{dropping};
-ghost use Rattle.script.specs.Wanting.{masks_of, named_beside, presented, request_in, target};
+ghost use Rattle.script.specs.Wanting.{masks_of, request_in, target};
 ghost use Rattle.std.specs.Prelude.{◌≡◌, option_map};
 ghost use Rattle.steps.specs.Asked.{asked};
 ghost use Rattle.store.specs.Held.{ask_of};
@@ -12,35 +12,6 @@ use secret::Secret;
 use steps::Step;
 use store::Request;
 use words::Pocket;
-
-/// The pocket of the capability presented; none where a store is opened.
-pub(crate) fn presented(step: Step) -> Option<Pocket>
-    ensures { result ≡ presented (asked step.entry) }
-{
-    match step {
-        Step::Store { .. } => None,
-        Step::File { under, .. } | Step::Directory { under, .. } => Some(under),
-        Step::Read { run } | Step::Size { run } => Some(run),
-        Step::Drop { from, .. } | Step::Give { from, .. } => Some(from),
-        Step::Enter { directory, .. }
-        | Step::Remove { directory, .. }
-        | Step::LookUp { directory, .. }
-        | Step::Walk { directory, .. }
-        | Step::Row { directory, .. }
-        | Step::Name { directory, .. } => Some(directory),
-        Step::Destroy { object } | Step::Revoke { object, .. } => Some(object),
-    }
-}
-
-/// The pocket of the capability that is entered, or asked the name of.
-pub(crate) fn named_beside(step: Step) -> Option<Pocket>
-    ensures { result ≡ named_beside (asked step.entry) }
-{
-    match step {
-        Step::Enter { entry, .. } | Step::Name { entry, .. } => Some(entry),
-        _ => None,
-    }
-}
 
 /// The pocket that is filled, where the step is not refused.
 pub(crate) fn target(step: Step) -> Option<Pocket>

@@ -1,4 +1,4 @@
-use Rattle.std.proofs.Common.{Option, Result, sym, ap, ◌∙◌}
+use Rattle.std.proofs.Common.{None, Option, Result, slice_index_or, sym, ap, ◌∙◌}
 use Rattle.holder.specs.declared.capability.Capability.{Capability}
 use Rattle.memory.specs.Held.{content}
 use Rattle.memory.specs.Soundness.{Content}
@@ -25,6 +25,6 @@ returns-clause-outcome g c =
     ap (λ places. turn told (state places k (content c.perform-told.new.memory))) (c.fill.ensures _ _ ∙ ap (λ t. filled c.perform-told.new.self.pockets.places t told) c.target.ensures)
     ∙ ap (filling to) c.perform-told.ensures.outcome
     ∙ ap (λ r. then_turn s r (acted c.in_ok-capability.capability))
-    (sym c.in_ok-beside.was ∙ c.second.ensures ∙ ap (λ p. second_held s.pockets p c.in_ok-capability.capability) c.named_beside.ensures)
+    (sym c.in_ok-beside.was ∙ c.second.ensures ∙ ap (λ r. second_held s.pockets (slice_index_or r 1 None) c.in_ok-capability.capability) c.sources.ensures.value)
     ∙ ap (λ r. then_turn s r (λ c. then_turn s (second_held s.pockets (named_beside step) c) (acted c)))
-    (sym c.in_ok-capability.was ∙ c.first.ensures ∙ ap (first_held s.pockets) c.presented.ensures)
+    (sym c.in_ok-capability.was ∙ c.first.ensures ∙ ap (λ r. first_held s.pockets (slice_index_or r 0 None)) c.sources.ensures.value)
