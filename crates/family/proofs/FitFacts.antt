@@ -15,7 +15,7 @@ alone k j p q =
     (at_each (λ i. agree (has (2 ^ k) i) (eqb i k)) 8 (at_each (λ h. all_below (λ i. agree (has (2 ^ h) i) (eqb i h)) 8) 8 refl k p) j q)
 
 -- and the byte 0 for the empty set
-nothing : (k : ℕ) → none k ≡ has 0 k
+pub nothing : (k : ℕ) → none k ≡ has 0 k
 nothing k = rw zero-div
 
 -- a secret that f_k leaves as it is has one number for two sets: that of right k, and the empty one

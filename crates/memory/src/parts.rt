@@ -25,8 +25,8 @@ impl Part {
     pub fn is_clear_of(self, file: &FileRecord) -> bool
         ensures { result ≡ clear_of self.start self.length file.now }
     {
-        !file.live
-            || self.ends_by(file.start)
+        // Every two files are tested at every request, and two tests are quicker than a branch between them.
+        (!file.live | self.ends_by(file.start))
             || file.part().ends_by(self.start)
             || self.length == 0
             || file.length == 0

@@ -1,2 +1,3 @@
 pub mod CarryFacts
+pub mod PlaceFacts
 pub mod LawFacts

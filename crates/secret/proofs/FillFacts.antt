@@ -1,61 +1,119 @@
--- Filling the numbers of all sets of rights, one right after the other.
-use Rattle.std.proofs.Common.{◌≡◌, ℕ, suc, ◌+◌, ◌-◌, ◌*◌, ◌/◌, ◌%◌, ◌^◌, ◌<◌, Bool, true, false, cond, eqb, List, length, get_or, set, sym, ap, ◌∙◌, inl, inr, pow-suc, add-one, arith, get_or-set_same, pow_pos, pow-add}
-use native.Mathlib.Nat.{div-eq_of_lt, add-mul-div_right}
-use lib.Arith.{digits_div}
-use Rattle.std.proofs.lemmas.Bool.{cases_lt}
-use Rattle.family.specs.Rights.{has}
-use Rattle.family.specs.Thin.{thin_below}
-use Rattle.family.proofs.ThinFacts.{thin_none, thin_more, below_like}
+-- Filling the numbers of all sets of rights, one right after the other, the greatest first.
+use Rattle.std.proofs.Common.{◌≡◌, ℕ, suc, ◌+◌, ◌*◌, ◌/◌, ◌%◌, ◌^◌, ◌<◌, ◌≢◌, Bool, true, false, not, ◌||◌, eqb, List, length, get_or, set, sym, refl, ap, ◌∙◌, inl, inr, ◌⊎◌, arith, pow-suc, get_or-set_same}
+use Rattle.std.proofs.Math.Nat.{eq_of_mul-eq-mul_right}
+use Rattle.std.proofs.lemmas.List.{get_or-set_other}
+use Rattle.std.proofs.lemmas.Bool.{cases_lt, false≢true, ne_eqb, eqb-true, not-true}
+use Rattle.family.specs.Commuting.{Commuting}
+use Rattle.family.specs.Rights.{has, none, union}
+use Rattle.family.specs.Thin.{Disjoint}
+use Rattle.family.proofs.Tables.{all_below, at_each, agree, agreed}
+use Rattle.family.proofs.FitFacts.{nothing}
+use Rattle.family.proofs.ThinFacts.{thin_laws, thin_like, thin_empty, thin_single}
+use Rattle.secret.specs.Fitness.{thinned_by}
 
--- right k is not in a set of rights below k
-has_not_yet : (m k : ℕ) → m < 2 ^ k → has m k ≡ false
-has_not_yet m k h = ap (λ x. eqb (x % 2) 1) (div-eq_of_lt h)
+-- of two sets, one with right k and the other without, the numbers stand at two places
+with_without : (p i j : ℕ) → 0 < p → 2 * j * p ≢ (2 * i + 1) * p
+with_without p i j h e = let same : 2 * j ≡ 2 * i + 1 = eq_of_mul-eq-mul_right p h (2 * j) (2 * i + 1) e in omega arith
 
--- the set m of rights below k, with right k, has right k
-has_top : (m k : ℕ) → m < 2 ^ k → has (2 ^ k + m) k ≡ true
-has_top m k h =
-    let e : (2 ^ k + m) / 2 ^ k ≡ 1 = ap (λ x. (x + m) / 2 ^ k) (omega arith) ∙ digits_div 1 h in
-    ap (λ x. eqb (x % 2) 1) e
+-- and so they do of two sets with it
+both_with : (p i j : ℕ) → 0 < p → j < i → (2 * j + 1) * p ≢ (2 * i + 1) * p
+both_with p i j h less e = let same : 2 * j + 1 ≡ 2 * i + 1 = eq_of_mul-eq-mul_right p h (2 * j + 1) (2 * i + 1) e in omega arith
 
--- and the same rights below k
-has_lower : (m k j : ℕ) → j < k → has (2 ^ k + m) j ≡ has m j
-has_lower m k j p =
-    let d : ℕ = k - suc j in
-    let split : 2 ^ k ≡ 2 ^ d * 2 * 2 ^ j = ap (λ x. 2 ^ x) (omega arith) ∙ pow-add 2 (suc d) j ∙ ap (λ x. x * 2 ^ j) (pow-suc 2 d) in
-    let quotient : (2 ^ k + m) / 2 ^ j ≡ m / 2 ^ j + 2 ^ d * 2 = ap (λ x. x / 2 ^ j) (omega (arith, split)) ∙ add-mul-div_right m (2 ^ d * 2) (pow_pos j) in
-    ap (λ x. eqb x 1) (ap (λ x. x % 2) quotient ∙ omega arith)
+-- one set more is given right k
+module _ (f : ℕ → ℕ) (p i y : ℕ) (xs zs : List ℕ) (positive : 0 < p) (room : (2 * i + 1) * p < length xs)
+    (even : (j : ℕ) → get_or xs (2 * j * p) 0 ≡ get_or zs (2 * j * p) 0)
+    (odd : (j : ℕ) → j < i → get_or xs ((2 * j + 1) * p) 0 ≡ f (get_or zs (2 * j * p) 0))
+    (given : y ≡ f (get_or xs (2 * i * p) 0)) where
+  pub still_without : (j : ℕ) → get_or (set xs ((2 * i + 1) * p) y) (2 * j * p) 0 ≡ get_or zs (2 * j * p) 0
+  still_without j = get_or-set_other xs ((2 * i + 1) * p) (2 * j * p) y 0 (with_without p i j positive) ∙ even j
 
-module _ (f : ℕ → ℕ → ℕ) (s : ℕ) where
-  -- the empty set
-  pub fill_first : (xs : List ℕ) → 0 < length xs → (i : ℕ) → i < 1 → get_or (set xs 0 s) i 0 ≡ thin_below f (has i) 0 s
-  fill_first xs h i p =
-      let e : i ≡ 0 = omega arith in
-      ap (λ x. get_or (set xs 0 s) x 0) e ∙ rw get_or-set_same (sym (thin_none f (has i) s))
+  pub one_given : (j : ℕ) → j < i + 1 → get_or (set xs ((2 * i + 1) * p) y) ((2 * j + 1) * p) 0 ≡ f (get_or zs (2 * j * p) 0)
+  one_given j h = elim (cases_lt j i) [
+    | inl less ↦ get_or-set_other xs ((2 * i + 1) * p) ((2 * j + 1) * p) y 0 (both_with p i j positive less) ∙ odd j less
+    | inr more ↦
+        let e : j ≡ i = omega arith in
+        ap (λ m. get_or (set xs ((2 * i + 1) * p) y) ((2 * m + 1) * p) 0) e ∙ get_or-set_same xs ((2 * i + 1) * p) y 0 room
+        ∙ given ∙ ap f (even i) ∙ ap (λ m. f (get_or zs (2 * m * p) 0)) (sym e)
+  ]
+
+-- the set without any right, which comes first
+pub empty_first : (f : ℕ → ℕ → ℕ) (s : ℕ) (xs : List ℕ) (i : ℕ) → 0 < length xs → i ≡ 0 → get_or (set xs 0 s) i 0 ≡ thinned_by f s i
+empty_first f s xs i h e =
+    rw e (get_or-set_same xs 0 s 0 h ∙ sym (thin_like f (has 0) none s (λ j q. sym (nothing j)) ∙ thin_empty f s))
+
+-- the set of number (2i + 1)·2^k has the rights of that of number 2i·2^k and right k besides, which that one has not
+abbrev given_test : ℕ → ℕ → ℕ → Bool
+given_test k i j = agree (has ((2 * i + 1) * 2 ^ k) j) (has (2 * i * 2 ^ k) j || eqb j k)
+
+abbrev without_test : ℕ → ℕ → Bool
+without_test k i = not (has (2 * i * 2 ^ k) k)
+
+all_given : all_below (λ k. all_below (λ i. all_below (given_test k i) 8) (128 / 2 ^ k)) 8 ≡ true
+all_given = refl
+
+all_without : all_below (λ k. all_below (without_test k) (128 / 2 ^ k)) 8 ≡ true
+all_without = refl
+
+module _ (n : ℕ) (f : ℕ → ℕ → ℕ) (family : Commuting n f) (s k i : ℕ) (below : s < n) (right : k < 8) (small : i < 128 / 2 ^ k) where
+  abbrev more : ℕ → Bool
+  more = has (2 * i * 2 ^ k)
+
+  given : (j : ℕ) → j < 8 → has ((2 * i + 1) * 2 ^ k) j ≡ union more (λ j. eqb j k) j
+  given j h =
+      agreed (has ((2 * i + 1) * 2 ^ k) j) (more j || eqb j k)
+      (at_each (given_test k i) 8 (at_each (λ i. all_below (given_test k i) 8) (128 / 2 ^ k) (at_each (λ k. all_below (λ i. all_below (given_test k i) 8) (128 / 2 ^ k)) 8 all_given k right) i small) j h)
+
+  apart : Disjoint more (λ j. eqb j k)
+  apart j h e = ne_eqb j k (λ same. false≢true (sym without ∙ ap more (sym same) ∙ e))
+    where
+      without : more k ≡ false
+      without = not-true (more k) (at_each (without_test k) (128 / 2 ^ k) (at_each (λ k. all_below (without_test k) (128 / 2 ^ k)) 8 all_without k right) i small)
 
   -- a set without right k, and with it
-  without_top : (m k : ℕ) → m < 2 ^ k → thin_below f (has m) (suc k) s ≡ thin_below f (has m) k s
-  without_top m k h = thin_more f (has m) k s ∙ ap (λ b. cond b (f k (thin_below f (has m) k s)) (thin_below f (has m) k s)) (has_not_yet m k h)
+  with_right : thinned_by f s ((2 * i + 1) * 2 ^ k) ≡ f k (thinned_by f s (2 * i * 2 ^ k))
+  with_right =
+      thin_like f (has ((2 * i + 1) * 2 ^ k)) (union more (λ j. eqb j k)) s given
+      ∙ sym ((thin_laws n f family).by_both s more (λ j. eqb j k) below apart)
+      ∙ thin_single f (thinned_by f s (2 * i * 2 ^ k)) k right
 
-  with_top : (m k : ℕ) → m < 2 ^ k → thin_below f (has (2 ^ k + m)) (suc k) s ≡ f k (thin_below f (has m) k s)
-  with_top m k h =
-      let M : ℕ → Bool = has (2 ^ k + m) in
-      thin_more f M k s
-      ∙ ap (λ b. cond b (f k (thin_below f M k s)) (thin_below f M k s)) (has_top m k h)
-      ∙ ap (f k) (below_like f M (has m) s k (λ j q. has_lower m k j q))
+-- twice as many sets have no right below k as have none below k + 1, where k is a right
+abbrev twice_test : ℕ → Bool
+twice_test k = eqb (256 / 2 ^ k) (2 * (128 / 2 ^ k))
 
-  -- one right more: the lower half stays, and the upper half is made from it
-  module _ (k half : ℕ) (xs ys : List ℕ) (size : half ≡ 2 ^ k)
-      (filled : (m : ℕ) → m < 2 ^ k → get_or xs m 0 ≡ thin_below f (has m) k s)
-      (lower : (m : ℕ) → m < half → get_or ys m 0 ≡ get_or xs m 0)
-      (upper : (m : ℕ) → m < half → get_or ys (half + m) 0 ≡ f k (get_or xs m 0)) where
-    pub fill_more : (i : ℕ) → i < 2 ^ (k + 1) → get_or ys i 0 ≡ thin_below f (has i) (k + 1) s
-    fill_more i p = rw add-one (elim (cases_lt i (2 ^ k)) [
-      | inl h ↦ lower i (omega arith) ∙ filled i h ∙ sym (without_top i k h)
-      | inr h ↦
-          let two : 2 ^ (k + 1) ≡ 2 ^ k * 2 = rw add-one (pow-suc 2 k) in
-          let m : ℕ = i - 2 ^ k in
-          let small : m < 2 ^ k = omega arith in
-          let back : 2 ^ k + m ≡ i = omega arith in
-          let back' : i ≡ half + m = omega arith in
-          ap (λ x. get_or ys x 0) back' ∙ upper m (omega arith) ∙ ap (f k) (filled m small) ∙ sym (with_top m k small) ∙ ap (λ x. thin_below f (has x) (suc k) s) back
-    ])
+all_twice : all_below twice_test 8 ≡ true
+all_twice = refl
+
+abbrev halves_test : ℕ → Bool
+halves_test k = eqb (256 / 2 ^ suc k) (128 / 2 ^ k)
+
+all_halves : all_below halves_test 8 ≡ true
+all_halves = refl
+
+-- one right more, k after all above it: where the sets without a right below k + 1 were filled, all that have none below k are
+module _ (n : ℕ) (f : ℕ → ℕ → ℕ) (family : Commuting n f) (s k above : ℕ) (below : s < n) (right : k < 8) (next : above ≡ suc k)
+    (xs ys : List ℕ) (filled : (i : ℕ) → i < 256 / 2 ^ above → get_or xs (i * 2 ^ above) 0 ≡ thinned_by f s (i * 2 ^ above)) where
+  even : (i : ℕ) → i < 128 / 2 ^ k → get_or xs (2 * i * 2 ^ k) 0 ≡ thinned_by f s (2 * i * 2 ^ k)
+  even i h = ap (λ m. get_or xs m 0) (sym place) ∙ filled i within ∙ ap (thinned_by f s) place
+    where
+      place : i * 2 ^ above ≡ 2 * i * 2 ^ k
+      place = let double : 2 ^ above ≡ 2 ^ k * 2 = ap (λ x. 2 ^ x) next ∙ pow-suc 2 k in ap (λ x. i * x) double ∙ omega arith
+
+      within : i < 256 / 2 ^ above
+      within =
+          let halves : 256 / 2 ^ above ≡ 128 / 2 ^ k = ap (λ x. 256 / 2 ^ x) next ∙ eqb-true (256 / 2 ^ suc k) (128 / 2 ^ k) (at_each halves_test 8 all_halves k right) in
+          omega arith
+
+  pub numbers_below : (i : ℕ) → i < 128 / 2 ^ k → get_or xs (2 * i * 2 ^ k) 0 < n
+  numbers_below i h = rw (even i h) ((thin_laws n f family).stays_below s (has (2 * i * 2 ^ k)) below)
+
+  module _ (kept : (i : ℕ) → i < 128 / 2 ^ k → get_or ys (2 * i * 2 ^ k) 0 ≡ get_or xs (2 * i * 2 ^ k) 0)
+      (added : (i : ℕ) → i < 128 / 2 ^ k → get_or ys ((2 * i + 1) * 2 ^ k) 0 ≡ f k (get_or xs (2 * i * 2 ^ k) 0)) where
+    -- a set of number m·2^k: with right k where m is odd
+    filled_to : (m i : ℕ) → i < 128 / 2 ^ k → (m ≡ 2 * i) ⊎ (m ≡ 2 * i + 1) → get_or ys (m * 2 ^ k) 0 ≡ thinned_by f s (m * 2 ^ k)
+    filled_to m i h (inl e) = rw e (kept i h ∙ even i h)
+    filled_to m i h (inr e) = rw e (added i h ∙ ap (f k) (even i h) ∙ sym (with_right n f family s k i below right h))
+
+    pub filled_more : (m : ℕ) → m < 256 / 2 ^ k → get_or ys (m * 2 ^ k) 0 ≡ thinned_by f s (m * 2 ^ k)
+    filled_more m h =
+        let twice : 256 / 2 ^ k ≡ 2 * (128 / 2 ^ k) = eqb-true (256 / 2 ^ k) (2 * (128 / 2 ^ k)) (at_each twice_test 8 all_twice k right) in
+        filled_to m (m / 2) (omega (arith, twice)) (elim (cases_lt (m % 2) 1) [ inl p ↦ inl (omega arith) | inr p ↦ inr (omega arith) ])

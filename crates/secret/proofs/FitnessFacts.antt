@@ -2,11 +2,7 @@
 use Rattle.std.proofs.Common.{◌≡◌, ℕ, ◌<◌, Bool, true, false, not, eqb, ltb, List, get_or, Decides, MatchBool, sym, refl, ◌∙◌, inl, inr, arith}
 use Rattle.std.proofs.lemmas.Bool.{false≢true, cases_order}
 use Rattle.std.proofs.lemmas.Bool.Decides.{Decides-below_and, Decides-not, Decides-eqb, Decides-and, Decides-ltb, Decides-like, same_from_decides}
-use Rattle.family.specs.Commuting.{Commuting, asked}
 use Rattle.family.specs.Fit.{Fit}
-use Rattle.family.specs.Rights.{has}
-use Rattle.family.specs.Thin.{thin}
-use Rattle.family.proofs.ThinFacts.{thin_asked}
 use Rattle.secret.specs.Fitness.{new_among, all_apart, thinned_by, is_fit, AllNew}
 
 -- number j differs from each of the first i
@@ -43,19 +39,16 @@ decides_fit n f s =
     (λ fit. (fit.below, λ j p i q e. let same : i ≡ j = fit.apart i j (omega arith) p e in omega arith))
     (Decides-and (ltb s n) (all_apart (thinned_by f s) 256) (Decides-ltb s n) (decides_apart (thinned_by f s) 256))
 
--- a list of the thinned numbers of a secret below the modulus, judged pair by pair
-pub judged : (n : ℕ) (f : ℕ → ℕ → ℕ) → Commuting n f → (s : ℕ) (xs : List ℕ) (r : Bool) → s < n → ((m : ℕ) → m < 256 → get_or xs m 0 ≡ thin (asked n f) s (has m)) → MatchBool r (AllNew xs 256) (AllNew xs 256 → ⊥) → r ≡ all_apart (thinned_by f s) 256
-judged n f family s xs r h filled w =
+-- a list of the thinned numbers of a secret, judged pair by pair
+pub judged : (f : ℕ → ℕ → ℕ) (s : ℕ) (xs : List ℕ) (r : Bool) → ((m : ℕ) → m < 256 → get_or xs m 0 ≡ thinned_by f s m) → MatchBool r (AllNew xs 256) (AllNew xs 256 → ⊥) → r ≡ all_apart (thinned_by f s) 256
+judged f s xs r filled w =
     same_from_decides r (all_apart (thinned_by f s) 256) (Decides-like r there back (decided r w)) (decides_apart (thinned_by f s) 256)
   where
-    plain : (m : ℕ) → m < 256 → get_or xs m 0 ≡ thinned_by f s m
-    plain m p = filled m p ∙ thin_asked n f family s (has m) h
-
     there : AllNew xs 256 → Apart (thinned_by f s) 256
-    there new j p i q e = new j p i q (plain i (omega arith) ∙ e ∙ sym (plain j p))
+    there new j p i q e = new j p i q (filled i (omega arith) ∙ e ∙ sym (filled j p))
 
     back : Apart (thinned_by f s) 256 → AllNew xs 256
-    back apart j p i q e = apart j p i q (sym (plain i (omega arith)) ∙ e ∙ plain j p)
+    back apart j p i q e = apart j p i q (sym (filled i (omega arith)) ∙ e ∙ filled j p)
 
     decided : (b : Bool) → MatchBool b (AllNew xs 256) (AllNew xs 256 → ⊥) → Decides b (AllNew xs 256)
     decided true new = (λ _. new, λ _. refl)

@@ -16,7 +16,12 @@ pub struct Word<'l> {
 fn is_printable(line: &[u8]) -> bool
     ensures { result ≡ printable line.now }
 {
-    line.iter().all(|byte| (b' '..=b'~').contains(byte))
+    // Each byte, since that is quicker than a branch at each.
+    let mut printable = true;
+    for byte in line {
+        printable &= (b' '..=b'~').contains(byte);
+    }
+    printable
 }
 
 /// Whether no space is the first byte or the last, or stands beside another one.
