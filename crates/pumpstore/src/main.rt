@@ -1,8 +1,14 @@
 //! pumpstore: answers the lines of a script over a store of its own.
 #![tactic(auto)]
 
+mod command;
+#[cfg(test)]
+mod tests;
+
+use crate::command::Command;
 use anyhow::Context;
 use console::{Room, run};
+use std::convert::AsStr;
 use std::env;
 use std::fs::File;
 use std::io::{self, BufReader, BufWriter, Read};
@@ -42,7 +48,7 @@ fn run_from<R: Read + Drop>(rt: &HostRuntime, input: R, room: &mut Room) -> anyh
 }
 
 /// Runs the script of each file, over a store of its own.
-fn run_files(rt: &HostRuntime, names: &[String], room: &mut Room) -> anyhow::Result<()> {
+fn run_files<W: AsStr>(rt: &HostRuntime, names: &[W], room: &mut Room) -> anyhow::Result<()> {
     for name in names {
         let file = File::open(rt, name.as_str()).context("a script cannot be opened")?;
         run_from(rt, file, room)?;
@@ -52,22 +58,15 @@ fn run_files(rt: &HostRuntime, names: &[String], room: &mut Room) -> anyhow::Res
 
 fn main(rt: HostRuntime) -> anyhow::Result<ExitCode> {
     let words: Vec<String> = env::args(&rt)?.collect(rt.alloc())?;
-    let names = words.get(1..).unwrap_or(&[]);
-    if let [help] = names
-        && help.as_str() == "--help"
-    {
-        rt.print(USAGE)?;
-        return Ok(ExitCode::SUCCESS);
-    }
-    if names.iter().any(|name| name.as_str().starts_with('-')) {
-        eprint!(rt; "pumpstore: there is no option but --help\n\n{USAGE}")?;
-        return Ok(ExitCode::FAILURE);
-    }
-    let mut room = Room::new(rt.alloc())?;
-    if names.is_empty() {
-        run_from(&rt, rt.reader(), &mut room)?;
-    } else {
-        run_files(&rt, names, &mut room)?;
+    let words = words.get(1..).unwrap_or(&[]);
+    match Command::of(words) {
+        Command::Help => rt.print(USAGE)?,
+        Command::NoOption => {
+            eprint!(rt; "pumpstore: there is no option but --help\n\n{USAGE}")?;
+            return Ok(ExitCode::FAILURE);
+        }
+        Command::Input => run_from(&rt, rt.reader(), &mut Room::new(rt.alloc())?)?,
+        Command::Files => run_files(&rt, words, &mut Room::new(rt.alloc())?)?,
     }
     Ok(ExitCode::SUCCESS)
 }

@@ -4,7 +4,7 @@ ghost use Rattle.std.specs.Prelude.{◌≤◌, ◌-◌, ◌^◌, refl};
 ghost use Rattle.std.proofs.Common.{arith};
 ghost use Rattle.store_tests.specs.Masking.{masks_commute, masked_below};
 
-use crate::bench::{Bench, PORT, Room, lend, masks, old_file};
+use store_bench::{Bench, PORT, Room, lend, masks, old_file};
 use admission::Denial;
 use family::CommutingFamily;
 use holder::Mask;

@@ -2,15 +2,7 @@
 #![tactic(auto)]
 
 #[cfg(test)]
-mod bench;
-#[cfg(test)]
-mod directories;
-#[cfg(test)]
 mod families;
-#[cfg(test)]
-mod lookups;
-#[cfg(test)]
-mod presented;
 #[cfg(test)]
 mod refusals;
 #[cfg(test)]

@@ -1,5 +1,5 @@
 //! Requests one after the other.
-use crate::bench::{Bench, Room, gate, lend};
+use store_bench::{Bench, Room, gate, lend};
 use admission::Denial;
 use holder::{Capability, Check};
 use memory::Memory;

@@ -1,5 +1,5 @@
 //! Sizes of memory and scratch, at both ends of every limit and one past each.
-use crate::bench::{Bench, Room, gate, lend, old_directory, old_file, old_row};
+use store_bench::{Bench, Room, gate, lend, old_directory, old_file, old_row};
 use admission::Denial;
 use family::Powers;
 use holder::{Capability, Rights};

@@ -1,5 +1,5 @@
 //! Memory that was spoilt between two requests, in each way that there is: refused, and left as it is.
-use crate::bench::{Bench, MODULUS, Room, gate, lend, old_row};
+use store_bench::{Bench, MODULUS, Room, gate, lend, old_row};
 use family::Powers;
 use holder::{Capability, Check, Port};
 use memory::{DirectoryRecord, FileRecord, Memory, Row};

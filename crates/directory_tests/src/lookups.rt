@@ -1,5 +1,5 @@
 //! Names looked up, and paths walked.
-use crate::bench::{Archive, OPEN, lend, masks, thinned};
+use store_bench::{Archive, OPEN, lend, masks, thinned};
 use admission::Denial;
 use holder::{Capability, Port};
 use memory::Memory;

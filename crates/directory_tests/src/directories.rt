@@ -1,5 +1,5 @@
 //! Rows entered into directories, told by place and by object, and removed.
-use crate::bench::{
+use store_bench::{
     Archive, Bench, OPEN, are_same_rows, lend, masks, not_accepted, old_row, thinned,
 };
 use family::Powers;

@@ -22,7 +22,7 @@ pub struct Room {
 }
 
 /// A file that lies nowhere in the area.
-pub(crate) fn old_file() -> FileRecord {
+pub fn old_file() -> FileRecord {
     FileRecord {
         live: true,
         secret: Secret::new(9),
@@ -32,7 +32,7 @@ pub(crate) fn old_file() -> FileRecord {
 }
 
 /// A directory with more rows than there can be.
-pub(crate) fn old_directory() -> DirectoryRecord {
+pub fn old_directory() -> DirectoryRecord {
     DirectoryRecord {
         live: true,
         secret: Secret::new(9),
@@ -41,7 +41,7 @@ pub(crate) fn old_directory() -> DirectoryRecord {
 }
 
 /// The three masks of these bits.
-pub(crate) fn masks(works: u8, inspector: u8, buyer: u8) -> Masks {
+pub fn masks(works: u8, inspector: u8, buyer: u8) -> Masks {
     Masks {
         works: Mask { bits: works },
         inspector: Mask { bits: inspector },
@@ -50,14 +50,14 @@ pub(crate) fn masks(works: u8, inspector: u8, buyer: u8) -> Masks {
 }
 
 /// Masks through which every right is seen.
-pub(crate) const OPEN: Masks = Masks {
+pub const OPEN: Masks = Masks {
     works: Mask { bits: 255 },
     inspector: Mask { bits: 255 },
     buyer: Mask { bits: 255 },
 };
 
 /// A row of another store, with a name of three bytes.
-pub(crate) fn old_row() -> Row {
+pub fn old_row() -> Row {
     Row {
         length: 3,
         name: [9; 24],
@@ -72,7 +72,7 @@ pub(crate) fn old_row() -> Row {
 }
 
 /// Whether all that two rows hold is the same.
-pub(crate) fn are_same_rows(a: &Row, b: &Row) -> bool {
+pub fn are_same_rows(a: &Row, b: &Row) -> bool {
     a.length == b.length
         && a.name == b.name
         && a.capability == b.capability
@@ -83,7 +83,7 @@ pub(crate) fn are_same_rows(a: &Row, b: &Row) -> bool {
 
 impl Room {
     /// Memory with something in it everywhere.
-    pub(crate) fn new() -> Room {
+    pub fn new() -> Room {
         Room {
             files: [old_file(); 3],
             directories: [old_directory(); 2],
@@ -93,7 +93,7 @@ impl Room {
     }
 
     /// Whether all that two rooms hold is the same.
-    pub(crate) fn is_same(&self, other: &Room) -> bool {
+    pub fn is_same(&self, other: &Room) -> bool {
         let files = self.files.iter().zip(&other.files).all(|(x, y)| {
             x.live == y.live
                 && x.secret.same(y.secret)
@@ -114,9 +114,10 @@ impl Room {
 }
 
 /// Lends a room to a store: a method cannot, since one that lends four parts of what lies behind `&mut self` is not covered by the borrow checker.
+#[macro_export]
 macro_rules! lend {
     ($room:ident) => {
-        Memory {
+        $crate::Memory {
             files: &mut $room.files,
             directories: &mut $room.directories,
             rows: &mut $room.rows,
@@ -124,8 +125,6 @@ macro_rules! lend {
         }
     };
 }
-
-pub(crate) use lend;
 
 /// A store with its owner capability. Each of its calls brings a scratch of its own and promises nothing, so that a test of many calls is quick to prove.
 #[derive(Drop)]
@@ -136,12 +135,12 @@ pub struct Bench<F> {
 
 impl<F: CommutingFamily + Drop> Bench<F> {
     /// A store just opened over this memory.
-    pub(crate) fn new(gate: Gate<F>, memory: &mut Memory) -> Result<Bench<F>, StoreRefusal> {
+    pub fn new(gate: Gate<F>, memory: &mut Memory) -> Result<Bench<F>, StoreRefusal> {
         let Opened { store, owner } = open(gate, memory, &mut [9; SETS])?;
         Ok(Bench { store, owner })
     }
 
-    pub(crate) fn file(
+    pub fn file(
         &mut self,
         memory: &mut Memory,
         bytes: &[u8],
@@ -152,7 +151,7 @@ impl<F: CommutingFamily + Drop> Bench<F> {
             .create_file(memory, self.owner, bytes, secret, &mut [9; SETS])
     }
 
-    pub(crate) fn directory(
+    pub fn directory(
         &mut self,
         memory: &mut Memory,
         secret: u64,
@@ -162,7 +161,7 @@ impl<F: CommutingFamily + Drop> Bench<F> {
             .create_directory(memory, self.owner, secret, &mut [9; SETS])
     }
 
-    pub(crate) fn revoke(
+    pub fn revoke(
         &mut self,
         memory: &mut Memory,
         object: Capability,
@@ -172,27 +171,19 @@ impl<F: CommutingFamily + Drop> Bench<F> {
         self.store.revoke(memory, object, secret, &mut [9; SETS])
     }
 
-    pub(crate) fn destroy(
-        &self,
-        memory: &mut Memory,
-        object: Capability,
-    ) -> Result<(), StoreRefusal> {
+    pub fn destroy(&self, memory: &mut Memory, object: Capability) -> Result<(), StoreRefusal> {
         self.store.destroy(memory, object)
     }
 
-    pub(crate) fn read<'a>(
-        &self,
-        memory: &'a Memory,
-        file: Capability,
-    ) -> Result<&'a [u8], StoreRefusal> {
+    pub fn read<'a>(&self, memory: &'a Memory, file: Capability) -> Result<&'a [u8], StoreRefusal> {
         self.store.read(memory, file)
     }
 
-    pub(crate) fn size(&self, memory: &Memory, file: Capability) -> Result<u64, StoreRefusal> {
+    pub fn size(&self, memory: &Memory, file: Capability) -> Result<u64, StoreRefusal> {
         self.store.size(memory, file)
     }
 
-    pub(crate) fn enter(
+    pub fn enter(
         &self,
         memory: &mut Memory,
         directory: Capability,
@@ -203,7 +194,7 @@ impl<F: CommutingFamily + Drop> Bench<F> {
         self.store.enter(memory, directory, name, entry, masks)
     }
 
-    pub(crate) fn remove(
+    pub fn remove(
         &self,
         memory: &mut Memory,
         directory: Capability,
@@ -212,7 +203,7 @@ impl<F: CommutingFamily + Drop> Bench<F> {
         self.store.remove(memory, directory, name)
     }
 
-    pub(crate) fn row<'a>(
+    pub fn row<'a>(
         &self,
         memory: &'a Memory,
         directory: Capability,
@@ -221,7 +212,7 @@ impl<F: CommutingFamily + Drop> Bench<F> {
         self.store.row(memory, directory, n)
     }
 
-    pub(crate) fn name<'a>(
+    pub fn name<'a>(
         &self,
         memory: &'a Memory,
         directory: Capability,
@@ -230,7 +221,7 @@ impl<F: CommutingFamily + Drop> Bench<F> {
         self.store.name(memory, directory, object)
     }
 
-    pub(crate) fn look_up(
+    pub fn look_up(
         &self,
         memory: &Memory,
         directory: Capability,
@@ -239,7 +230,7 @@ impl<F: CommutingFamily + Drop> Bench<F> {
         self.store.look_up(memory, directory, name)
     }
 
-    pub(crate) fn walk(
+    pub fn walk(
         &self,
         memory: &Memory,
         directory: Capability,
@@ -248,7 +239,7 @@ impl<F: CommutingFamily + Drop> Bench<F> {
         self.store.walk(memory, directory, path)
     }
 
-    pub(crate) fn serve(
+    pub fn serve(
         &mut self,
         memory: &mut Memory,
         capability: Capability,
@@ -259,10 +250,10 @@ impl<F: CommutingFamily + Drop> Bench<F> {
 }
 
 /// The modulus of the store of powers.
-pub(crate) const MODULUS: u64 = 2_147_483_647;
+pub const MODULUS: u64 = 2_147_483_647;
 
 /// A store of powers, with secret 7.
-pub(crate) fn gate() -> Result<Gate<Powers>, FamilyRefusal> {
+pub fn gate() -> Result<Gate<Powers>, FamilyRefusal> {
     Ok(Gate {
         family: Powers::new(MODULUS)?,
         port: PORT,
@@ -271,7 +262,7 @@ pub(crate) fn gate() -> Result<Gate<Powers>, FamilyRefusal> {
 }
 
 /// What is left of a capability of the store of powers within a mask.
-pub(crate) fn thinned(capability: Capability, bits: u8) -> Result<Capability, Fail> {
+pub fn thinned(capability: Capability, bits: u8) -> Result<Capability, Fail> {
     Ok(capability.thin_to(&Powers::new(MODULUS)?, Mask { bits })?)
 }
 
@@ -285,7 +276,7 @@ pub struct Archive {
 }
 
 impl Archive {
-    pub(crate) fn new() -> Result<Archive, Fail> {
+    pub fn new() -> Result<Archive, Fail> {
         let mut room = Room::new();
         let mut memory = lend!(room);
         let mut bench = Bench::new(gate()?, &mut memory)?;
@@ -301,7 +292,7 @@ impl Archive {
 }
 
 /// A capability of the store of powers that is not accepted, in each way, with the denial for it.
-pub(crate) fn not_accepted(capability: Capability) -> [(Capability, Denial); 4] {
+pub fn not_accepted(capability: Capability) -> [(Capability, Denial); 4] {
     let port = Port { bytes: [9; 6] };
     let object = Object { bytes: [1, 0, 1] };
     let check = Check { bytes: [0; 6] };

@@ -1,5 +1,5 @@
 //! What a capability presented to a directory must be, for each request to one.
-use crate::bench::{Archive, Bench, OPEN, Room, lend, not_accepted, thinned};
+use store_bench::{Archive, Bench, OPEN, Room, lend, not_accepted, thinned};
 use admission::Denial;
 use family::Powers;
 use holder::{Capability, Port};
