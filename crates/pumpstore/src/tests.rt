@@ -27,6 +27,14 @@ fn a_script_that_cannot_be_opened_is_an_error(rt: HostRuntime) -> Result<(), Fai
     let mut room = Room::new(rt.alloc())?;
     assert!(rt; run_files(&rt, &["no such script"], &mut room).is_err());
     assert!(rt; run_files(&rt, &["."], &mut room).is_err(), "a directory");
+    assert!(rt;
+        run_files(&rt, &["/dev/null", "no such script"], &mut room).is_err(),
+        "behind another one"
+    );
+    assert!(rt;
+        run_files(&rt, &["/dev/null"], &mut room).is_ok(),
+        "a script of no lines"
+    );
     let none: [&str; 0] = [];
     assert!(rt; run_files(&rt, &none, &mut room).is_ok());
     Ok(())
