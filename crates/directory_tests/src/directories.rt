@@ -1,13 +1,13 @@
 //! Rows entered into directories, told by place and by object, and removed.
-use store_bench::{
-    Archive, Bench, OPEN, are_same_rows, lend, masks, not_accepted, old_row, thinned,
-};
 use family::Powers;
 use holder::{Capability, Object, Port};
 use memory::{Masks, Memory, Name, Row, zero_row};
 use rows::row_of;
 use std::test::Fail;
 use store::{Answer, Request, StoreRefusal};
+use store_bench::{
+    Archive, Bench, OPEN, are_same_rows, lend, masks, not_accepted, old_row, thinned,
+};
 
 /// Whether a directory has rows of these names, in this order, and no more.
 fn has_names(

@@ -1,10 +1,10 @@
 //! Names looked up, and paths walked.
-use store_bench::{Archive, OPEN, lend, masks, thinned};
 use admission::Denial;
 use holder::{Capability, Port};
 use memory::Memory;
 use std::test::Fail;
 use store::StoreRefusal;
+use store_bench::{Archive, OPEN, lend, masks, thinned};
 
 /// Of each of the eight sets of the rights 0, 1 and 2, the rights that it sees of a row with the masks aa, cc and f0.
 const SEEN: [(u8, u8); 8] = [

@@ -1,11 +1,11 @@
 //! What a capability presented to a directory must be, for each request to one.
-use store_bench::{Archive, Bench, OPEN, Room, lend, not_accepted, thinned};
 use admission::Denial;
 use family::Powers;
 use holder::{Capability, Port};
 use memory::Memory;
 use std::test::Fail;
 use store::StoreRefusal;
+use store_bench::{Archive, Bench, OPEN, Room, lend, not_accepted, thinned};
 
 /// A request to a directory.
 #[derive(Clone, Copy, Debug)]

@@ -4,7 +4,6 @@ ghost use Rattle.std.specs.Prelude.{◌≤◌, ◌-◌, ◌^◌, refl};
 ghost use Rattle.std.proofs.Common.{arith};
 ghost use Rattle.store_tests.specs.Masking.{masks_commute, masked_below};
 
-use store_bench::{Bench, PORT, Room, lend, masks, old_file};
 use admission::Denial;
 use family::CommutingFamily;
 use holder::Mask;
@@ -13,6 +12,7 @@ use runs::{Gate, open};
 use secret::{SETS, Secret};
 use std::test::Fail;
 use store::StoreRefusal;
+use store_bench::{Bench, PORT, Room, lend, masks, old_file};
 
 /// The identity over 1000: lawful, though no secret is fit in it.
 #[derive(Clone, Copy)]

@@ -1,10 +1,10 @@
 //! Requests one after the other.
-use store_bench::{Bench, Room, gate, lend};
 use admission::Denial;
 use holder::{Capability, Check};
 use memory::Memory;
 use std::test::Fail;
 use store::StoreRefusal;
+use store_bench::{Bench, Room, gate, lend};
 
 const NO_SUCH_OBJECT: StoreRefusal = StoreRefusal::Denied(Denial::NoSuchObject, 0);
 

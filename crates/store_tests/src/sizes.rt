@@ -1,5 +1,4 @@
 //! Sizes of memory and scratch, at both ends of every limit and one past each.
-use store_bench::{Bench, Room, gate, lend, old_directory, old_file, old_row};
 use admission::Denial;
 use family::Powers;
 use holder::{Capability, Rights};
@@ -9,6 +8,7 @@ use secret::{SETS, Secret};
 use std::alloc::Global;
 use std::test::Fail;
 use store::StoreRefusal;
+use store_bench::{Bench, Room, gate, lend, old_directory, old_file, old_row};
 
 /// Why a revoke that brings this scratch is refused, if it is.
 fn revoked(

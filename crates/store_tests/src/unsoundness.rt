@@ -1,11 +1,11 @@
 //! Memory that was spoilt between two requests, in each way that there is: refused, and left as it is.
-use store_bench::{Bench, MODULUS, Room, gate, lend, old_row};
 use family::Powers;
 use holder::{Capability, Check, Port};
 use memory::{DirectoryRecord, FileRecord, Memory, Row};
 use secret::Secret;
 use std::test::Fail;
 use store::StoreRefusal;
+use store_bench::{Bench, MODULUS, Room, gate, lend, old_row};
 
 /// What is wrong with the memory.
 #[derive(Clone, Copy, Debug)]
