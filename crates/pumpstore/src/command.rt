@@ -8,20 +8,17 @@ pub(crate) enum Command {
     Help,
     /// An option that there is not.
     NoOption,
-    /// The script of standard input.
-    Input,
-    /// The scripts of the files that the words name.
-    Files,
+    /// The scripts of the files that the words name, or of standard input where there are no words.
+    Scripts,
 }
 
 impl Command {
     /// The command of these words: help is asked for alone, and any other word that begins with a dash is no file's name.
     pub(crate) fn of<W: AsStr>(words: &[W]) -> Command {
         match words {
-            [] => Command::Input,
             [word] if word.as_str() == "--help" => Command::Help,
             _ if words.iter().any(|word| word.as_str().starts_with('-')) => Command::NoOption,
-            _ => Command::Files,
+            _ => Command::Scripts,
         }
     }
 }

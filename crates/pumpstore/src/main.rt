@@ -56,17 +56,25 @@ fn run_files<W: AsStr>(rt: &HostRuntime, names: &[W], room: &mut Room) -> anyhow
     Ok(())
 }
 
+/// Runs the scripts of these files, or that of standard input where there are none.
+fn run_scripts(rt: &HostRuntime, names: &[String]) -> anyhow::Result<()> {
+    let mut room = Room::new(rt.alloc())?;
+    if names.is_empty() {
+        return run_from(rt, rt.reader(), &mut room);
+    }
+    run_files(rt, names, &mut room)
+}
+
 fn main(rt: HostRuntime) -> anyhow::Result<ExitCode> {
     let words: Vec<String> = env::args(&rt)?.collect(rt.alloc())?;
     let words = words.get(1..).unwrap_or(&[]);
     match Command::of(words) {
         Command::Help => rt.print(USAGE)?,
+        Command::Scripts => run_scripts(&rt, words)?,
         Command::NoOption => {
             eprint!(rt; "pumpstore: there is no option but --help\n\n{USAGE}")?;
             return Ok(ExitCode::FAILURE);
         }
-        Command::Input => run_from(&rt, rt.reader(), &mut Room::new(rt.alloc())?)?,
-        Command::Files => run_files(&rt, words, &mut Room::new(rt.alloc())?)?,
     }
     Ok(ExitCode::SUCCESS)
 }

@@ -7,11 +7,11 @@ use std::test::Fail;
 #[test]
 fn words_are_commands(rt: HostRuntime) {
     let commands: [(&[&str], Command); 9] = [
-        (&[], Command::Input),
+        (&[], Command::Scripts),
         (&["--help"], Command::Help),
-        (&["a"], Command::Files),
-        (&["a", "b", "a"], Command::Files),
-        (&["help"], Command::Files),
+        (&["a"], Command::Scripts),
+        (&["a", "b", "a"], Command::Scripts),
+        (&["help"], Command::Scripts),
         (&["-"], Command::NoOption),
         (&["--help", "a"], Command::NoOption),
         (&["a", "--help"], Command::NoOption),
