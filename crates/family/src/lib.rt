@@ -17,6 +17,3 @@ pub use figures::figures_hold;
 pub use modular_powers::Powers;
 pub use modulus::FamilyRefusal;
 pub use thinning::{has_right, thin_number};
-
-#[cfg(test)]
-mod tests;

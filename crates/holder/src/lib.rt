@@ -10,6 +10,3 @@ mod refusing;
 
 pub use capability::{Capability, Check, Mask, Object, Port, Rights};
 pub use refusals::HolderRefusal;
-
-#[cfg(test)]
-mod tests;

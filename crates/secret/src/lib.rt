@@ -10,6 +10,3 @@ mod secrets;
 pub use fitness::{SETS, is_fit};
 pub use scratch::Scratch;
 pub use secrets::Secret;
-
-#[cfg(test)]
-mod tests;

@@ -1,8 +1,7 @@
 //! Examples of secrets, their checks and their fitness.
-use crate::fitness::is_fit;
-use crate::secrets::Secret;
 use family::{CommutingFamily, Dickson, Powers};
 use holder::{Capability, Check, Object, Port, Rights};
+use secret::{Secret, is_fit};
 use std::test::Fail;
 
 /// Whether the secret of s is fit, decided in a scratch that held something else.
@@ -28,48 +27,61 @@ fn accepts<F: CommutingFamily>(family: &F, s: u64, bits: u8, v: u64) -> bool {
 #[test]
 fn fit_in_powers(rt: HostRuntime) -> Result<(), Fail> {
     let powers = Powers::new(3413)?;
-    assert_eq!(rt; fitness(&powers, 2), Some(true));
-    assert_eq!(rt; fitness(&powers, 0), Some(false), "zero stays zero");
-    assert_eq!(rt; fitness(&powers, 1), Some(false), "one stays one");
-    assert_eq!(rt;
-        fitness(&powers, 3413),
-        Some(false),
-        "not below the modulus"
-    );
+    for (s, expected) in [
+        (2, true),
+        (0, false), // zero stays zero
+        (1, false), // one stays one
+        (3413, false), // not below the modulus
+    ] {
+        assert!(rt; fitness(&powers, s) == Some(expected), "{s}");
+    }
     Ok(())
 }
 
 #[test]
 fn fit_in_dickson(rt: HostRuntime) -> Result<(), Fail> {
     let dickson = Dickson::new(3631)?;
-    assert_eq!(rt; fitness(&dickson, 4), Some(true));
-    assert_eq!(rt; fitness(&dickson, 2), Some(false), "two stays two");
+    assert!(rt; fitness(&dickson, 4) == Some(true));
+    assert!(rt; fitness(&dickson, 2) == Some(false), "two stays two");
     Ok(())
 }
 
+/// The scratch that is left of these numbers where the fitness of the secret of s was decided in it.
+fn left(s: u64, mut scratch: [u64; 256]) -> Option<[u64; 256]> {
+    let powers = Powers::new(3413).ok()?;
+    is_fit(&powers, Secret::new(s), &mut scratch)?;
+    Some(scratch)
+}
+
 #[test]
-fn scratch_is_wiped(rt: HostRuntime) -> Result<(), Fail> {
-    let powers = Powers::new(3413)?;
+fn scratch_is_wiped(rt: HostRuntime) {
     for s in [2, 1, 3413] {
-        let mut scratch = [7; 256];
-        assert!(rt; is_fit(&powers, Secret::new(s), &mut scratch).is_some());
-        assert_eq!(rt; scratch, [0; 256]);
+        assert!(rt; left(s, [7; 256]) == Some([0; 256]), "{s}");
     }
+}
+
+#[test]
+fn a_short_scratch_is_untouched(rt: HostRuntime) -> Result<(), Fail> {
+    let powers = Powers::new(3413)?;
     let mut short = [7; 255];
-    assert_eq!(rt; is_fit(&powers, Secret::new(2), &mut short), None);
-    assert_eq!(rt; short, [7; 255], "untouched");
+    assert!(rt; is_fit(&powers, Secret::new(2), &mut short).is_none());
+    assert!(rt; short == [7; 255]);
     Ok(())
 }
 
 #[test]
 fn owners(rt: HostRuntime) -> Result<(), Fail> {
     let most = owner(281_474_976_710_655).ok_or("48 bits fit")?;
-    assert_eq!(rt; most.rights.bits, 255);
-    assert_eq!(rt; most.check.number(), 281_474_976_710_655);
+    assert!(rt; most.rights.bits == 255);
+    assert!(rt; most.check.number() == 281_474_976_710_655);
     assert!(rt; owner(281_474_976_710_656).is_none());
+    Ok(())
+}
+
+#[test]
+fn secrets_compared(rt: HostRuntime) {
     assert!(rt; Secret::new(5).same(Secret::new(5)));
     assert!(rt; !Secret::new(5).same(Secret::new(6)));
-    Ok(())
 }
 
 #[test]
@@ -77,17 +89,15 @@ fn acceptance(rt: HostRuntime) -> Result<(), Fail> {
     let powers = Powers::new(3413)?;
     let whole = owner(2).ok_or("no owner")?;
     let less = whole.drop_right(&powers, 0)?;
-    let secret = Secret::new(2);
-    assert!(rt; secret.accepts(&powers, whole.rights, whole.check));
-    assert!(rt; secret.accepts(&powers, less.rights, less.check));
-    assert!(rt;
-        !secret.accepts(&powers, whole.rights, less.check),
-        "more than was left"
-    );
-    assert!(rt;
-        !secret.accepts(&powers, less.rights, whole.check),
-        "not its own check"
-    );
+    for (rights, check, expected) in [
+        (whole.rights, whole.check, true),
+        (less.rights, less.check, true),
+        (whole.rights, less.check, false), // more than was left
+        (less.rights, whole.check, false), // not its own check
+    ] {
+        let accepted = Secret::new(2).accepts(&powers, rights, check);
+        assert!(rt; accepted == expected, "{rights:?}, {check:?}");
+    }
     Ok(())
 }
 
