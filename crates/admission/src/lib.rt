@@ -10,6 +10,3 @@ pub use denials::Denial;
 pub use gate::Gate;
 pub use objects::{Target, locate};
 pub use requests::Asking;
-
-#[cfg(test)]
-mod tests;

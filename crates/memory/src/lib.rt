@@ -18,6 +18,3 @@ pub use placement::place;
 pub use records::{DirectoryRecord, FileRecord, Masks, Row};
 pub use soundness::is_sound;
 pub use wiping::{wipe, zero_directory, zero_file, zero_row};
-
-#[cfg(test)]
-mod tests;

@@ -10,6 +10,3 @@ pub use changing::{close_gap, put_last, row_of};
 pub use paths::{Split, is_lawful_path, split_first};
 pub use searching::{last_for, search};
 pub use seeing::seen;
-
-#[cfg(test)]
-mod tests;

@@ -8,6 +8,3 @@ mod places;
 pub use container::Table;
 pub use liveness::Record;
 pub use places::{claim, find};
-
-#[cfg(test)]
-mod tests;

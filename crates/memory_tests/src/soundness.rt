@@ -1,11 +1,7 @@
 //! Memory at the edges of soundness, and starts at the edges of the area.
-use crate::lent::Memory;
-use crate::names::is_lawful_name;
-use crate::placement::place;
-use crate::records::{DirectoryRecord, FileRecord, Masks, Row};
-use crate::soundness::is_sound;
 use family::Powers;
 use holder::{Capability, Check, Mask, Object, Port, Rights};
+use memory::{DirectoryRecord, FileRecord, Masks, Memory, Row, is_lawful_name, is_sound, place};
 use secret::Secret;
 use std::test::Fail;
 
@@ -81,34 +77,32 @@ fn directory(live: bool, secret: u64, count: u64) -> DirectoryRecord {
 fn files_in_the_area(rt: HostRuntime) -> Result<(), Fail> {
     let none = directory(false, 0, 0);
     let (a, b) = (row(b'a', 1), row(b'b', 1));
-    assert!(rt;
-        sound([file(true, 0, 5), file(true, 5, 5)], none, a, b)?,
-        "side by side"
-    );
-    assert!(rt;
-        !sound([file(true, 0, 6), file(true, 5, 5)], none, a, b)?,
-        "one byte shared"
-    );
-    assert!(rt;
-        sound([file(true, 0, 6), file(false, 5, 5)], none, a, b)?,
-        "shared with a free one"
-    );
-    assert!(rt;
-        sound([file(true, 0, 6), file(true, 3, 0)], none, a, b)?,
-        "no byte to share"
-    );
-    assert!(rt;
-        !sound([file(true, 0, 6), file(true, 6, 5)], none, a, b)?,
-        "past the end"
-    );
-    assert!(rt;
-        !sound([file(true, 11, 0), file(true, 0, 5)], none, a, b)?,
-        "begins past the end"
-    );
-    assert!(rt;
-        !sound([file(true, u64::MAX, 2), file(true, 0, 5)], none, a, b)?,
-        "past any number"
-    );
+    for (first, second, expected, why) in [
+        (file(true, 0, 5), file(true, 5, 5), true, "side by side"),
+        (file(true, 0, 6), file(true, 5, 5), false, "one byte shared"),
+        (
+            file(true, 0, 6),
+            file(false, 5, 5),
+            true,
+            "shared with a free one",
+        ),
+        (file(true, 0, 6), file(true, 3, 0), true, "no byte to share"),
+        (file(true, 0, 6), file(true, 6, 5), false, "past the end"),
+        (
+            file(true, 11, 0),
+            file(true, 0, 5),
+            false,
+            "begins past the end",
+        ),
+        (
+            file(true, u64::MAX, 2),
+            file(true, 0, 5),
+            false,
+            "past any number",
+        ),
+    ] {
+        assert!(rt; sound([first, second], none, a, b)? == expected, "{why}");
+    }
     Ok(())
 }
 
@@ -116,36 +110,37 @@ fn files_in_the_area(rt: HostRuntime) -> Result<(), Fail> {
 fn rows_of_directories(rt: HostRuntime) -> Result<(), Fail> {
     let files = [file(false, 0, 0), file(false, 0, 0)];
     let (a, b) = (row(b'a', 1), row(b'b', 100));
-    assert!(rt; sound(files, directory(true, 100, 2), a, b)?);
-    assert!(rt;
-        !sound(files, directory(true, 101, 2), a, b)?,
-        "secret at the modulus"
-    );
-    assert!(rt;
-        sound(files, directory(false, 101, 2), a, b)?,
-        "of a free record"
-    );
-    assert!(rt;
-        !sound(files, directory(false, 0, 17), a, b)?,
-        "count, also of a free record"
-    );
-    assert!(rt;
-        !sound(files, directory(true, 1, 2), a, a)?,
-        "one name twice"
-    );
-    assert!(rt; sound(files, directory(true, 1, 1), a, a)?, "not counted");
-    assert!(rt;
-        !sound(files, directory(true, 1, 2), a, row(b'b', 101))?,
-        "check at the modulus"
-    );
-    assert!(rt;
-        !sound(files, directory(true, 1, 2), a, row(b'/', 1))?,
-        "a slash"
-    );
-    assert!(rt;
-        !sound(files, directory(true, 1, 2), a, row(32, 1))?,
-        "a space"
-    );
+    for (record, first, second, expected, why) in [
+        (directory(true, 100, 2), a, b, true, "below the modulus"),
+        (
+            directory(true, 101, 2),
+            a,
+            b,
+            false,
+            "secret at the modulus",
+        ),
+        (directory(false, 101, 2), a, b, true, "of a free record"),
+        (
+            directory(false, 0, 17),
+            a,
+            b,
+            false,
+            "count, also of a free record",
+        ),
+        (directory(true, 1, 2), a, a, false, "one name twice"),
+        (directory(true, 1, 1), a, a, true, "not counted"),
+        (
+            directory(true, 1, 2),
+            a,
+            row(b'b', 101),
+            false,
+            "check at the modulus",
+        ),
+        (directory(true, 1, 2), a, row(b'/', 1), false, "a slash"),
+        (directory(true, 1, 2), a, row(32, 1), false, "a space"),
+    ] {
+        assert!(rt; sound(files, record, first, second)? == expected, "{why}");
+    }
     Ok(())
 }
 
@@ -154,28 +149,22 @@ fn names_and_ports_of_rows(rt: HostRuntime) -> Result<(), Fail> {
     let files = [file(false, 0, 0), file(false, 0, 0)];
     let (a, b) = (row(b'a', 1), row(b'b', 100));
     let without_name = Row { length: 0, ..a };
-    assert!(rt;
-        !sound(files, directory(true, 1, 1), without_name, b)?,
-        "no name"
-    );
     let of_25_bytes = Row {
         length: 25,
         name: [b'a'; 24],
         ..a
     };
-    assert!(rt;
-        !sound(files, directory(true, 1, 1), of_25_bytes, b)?,
-        "more bytes than there are"
-    );
-    let port = Port { bytes: [9; 6] };
     let capability = Capability {
-        port,
+        port: Port { bytes: [9; 6] },
         ..a.capability
     };
-    assert!(rt;
-        !sound(files, directory(true, 1, 1), Row { capability, ..a }, b)?,
-        "another store's"
-    );
+    for (first, why) in [
+        (without_name, "no name"),
+        (of_25_bytes, "more bytes than there are"),
+        (Row { capability, ..a }, "another store's"),
+    ] {
+        assert!(rt; !sound(files, directory(true, 1, 1), first, b)?, "{why}");
+    }
     Ok(())
 }
 
@@ -183,18 +172,17 @@ fn names_and_ports_of_rows(rt: HostRuntime) -> Result<(), Fail> {
 fn secrets_of_files(rt: HostRuntime) -> Result<(), Fail> {
     let none = directory(false, 0, 0);
     let (a, b) = (row(b'a', 1), row(b'b', 1));
-    let secret = Secret::new(101);
     let other = file(false, 0, 0);
-    let live = FileRecord {
-        secret,
-        ..file(true, 0, 5)
-    };
-    assert!(rt; !sound([live, other], none, a, b)?, "secret at the modulus");
-    let free = FileRecord {
-        live: false,
-        ..live
-    };
-    assert!(rt; sound([free, other], none, a, b)?, "of a free record");
+    for (live, expected, why) in [
+        (true, false, "secret at the modulus"),
+        (false, true, "of a free record"),
+    ] {
+        let first = FileRecord {
+            secret: Secret::new(101),
+            ..file(live, 0, 5)
+        };
+        assert!(rt; sound([first, other], none, a, b)? == expected, "{why}");
+    }
     Ok(())
 }
 
@@ -210,11 +198,18 @@ fn lawful_names(rt: HostRuntime) {
 #[test]
 fn lowest_starts(rt: HostRuntime) {
     let files = [file(true, 0, 2), file(true, 5, 3), file(false, 2, 3)];
-    assert_eq!(rt; place(&files, 10, 3), Some(2), "the hole");
-    assert_eq!(rt; place(&files, 10, 2), Some(2));
-    assert_eq!(rt; place(&files, 12, 4), Some(8), "behind the last");
-    assert_eq!(rt; place(&files, 11, 4), None, "one byte too few");
-    assert_eq!(rt; place(&files, 0, 0), Some(0), "no bytes");
-    assert_eq!(rt; place(&[file(true, 1, u64::MAX)], 10, 1), Some(0));
-    assert_eq!(rt; place(&[file(true, 0, u64::MAX)], 10, 1), None);
+    for (area, length, expected) in [
+        (10, 3, Some(2)), // the hole
+        (10, 2, Some(2)),
+        (12, 4, Some(8)), // behind the last
+        (11, 4, None), // one byte too few
+        (0, 0, Some(0)), // no bytes
+    ] {
+        assert!(rt;
+            place(&files, area, length) == expected,
+            "{length} of {area}"
+        );
+    }
+    assert!(rt; place(&[file(true, 1, u64::MAX)], 10, 1) == Some(0));
+    assert!(rt; place(&[file(true, 0, u64::MAX)], 10, 1).is_none());
 }

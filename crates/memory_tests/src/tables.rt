@@ -1,9 +1,7 @@
 //! Examples, with a record of the test's own.
-ghost use Rattle.std.specs.Prelude.{false};
-ghost use Rattle.std.proofs.Common.{rules};
+ghost use Rattle.std.specs.Prelude.{false, refl};
 
-use crate::container::Table;
-use crate::liveness::Record;
+use table::{Record, Table};
 
 /// A number that is in use or not.
 #[derive(Clone, Copy)]
@@ -17,7 +15,7 @@ impl Record for Slot {
 
     ghost blank_of = { λ s. record { used = false; number = s.number } };
 
-    ghost blank_is_free = { Prim.search rules };
+    ghost blank_is_free = { λ _. refl };
 
     fn live(&self) -> bool {
         self.used
@@ -48,25 +46,24 @@ fn fill(table: &mut Table<Slot>, number: u8) -> Option<usize> {
 
 /// The number of the live record at a place.
 fn number_at(table: &Table<Slot>, place: usize) -> Option<u8> {
-    table.find(place).map(|slot| slot.number)
+    Some(table.find(place)?.number)
 }
 
 #[test]
 fn claims_go_round(rt: HostRuntime) {
     let mut slots = [FREE; 3];
     let mut table = Table::new(&mut slots);
-    assert_eq!(rt; fill(&mut table, 10), Some(0), "the first claim");
-    assert_eq!(rt; fill(&mut table, 11), Some(1));
+    assert!(rt; fill(&mut table, 10) == Some(0), "the first claim");
+    assert!(rt; fill(&mut table, 11) == Some(1));
     assert!(rt; table.free(0));
-    assert_eq!(rt;
-        fill(&mut table, 12),
-        Some(2),
+    assert!(rt;
+        fill(&mut table, 12) == Some(2),
         "not the place that was just freed"
     );
-    assert_eq!(rt; fill(&mut table, 13), Some(0), "round to it");
-    assert_eq!(rt; table.claim(), None, "all are live");
+    assert!(rt; fill(&mut table, 13) == Some(0), "round to it");
+    assert!(rt; table.claim().is_none(), "all are live");
     assert!(rt; table.free(0));
-    assert_eq!(rt; table.claim(), Some(0), "the last place given");
+    assert!(rt; table.claim() == Some(0), "the last place given");
 }
 
 #[test]
@@ -74,22 +71,25 @@ fn freed_records_are_not_found(rt: HostRuntime) {
     let mut slots = [used(1), used(2)];
     let mut table = Table::new(&mut slots);
     assert!(rt; table.free(1));
-    assert_eq!(rt; number_at(&table, 0), Some(1));
-    assert_eq!(rt; number_at(&table, 1), None);
+    assert!(rt; number_at(&table, 0) == Some(1));
+    assert!(rt; number_at(&table, 1).is_none());
     assert!(rt; table.put(0, used(7)));
-    assert_eq!(rt; number_at(&table, 0), Some(7));
-    assert_eq!(rt; slots[1].number, 2, "the blank keeps its number");
+    assert!(rt; number_at(&table, 0) == Some(7));
+    assert!(rt; slots[1].number == 2, "the blank keeps its number");
 }
 
 #[test]
 fn places_out_of_range(rt: HostRuntime) {
     let mut slots = [FREE; 1];
     let mut table = Table::new(&mut slots);
-    assert_eq!(rt; number_at(&table, 1), None);
+    assert!(rt; number_at(&table, 1).is_none());
     assert!(rt; !table.give(1, used(1)));
     assert!(rt; !table.put(1, used(1)));
     assert!(rt; !table.free(1));
-    assert_eq!(rt; fill(&mut table, 5), Some(0), "nothing was given before");
+    assert!(rt; fill(&mut table, 5) == Some(0), "nothing was given before");
     let mut none: [Slot; 0] = [];
-    assert_eq!(rt; Table::new(&mut none).claim(), None, "a table of no places");
+    assert!(rt;
+        Table::new(&mut none).claim().is_none(),
+        "a table of no places"
+    );
 }

@@ -1,7 +1,5 @@
 //! One file and one directory, asked for with capabilities that are wrong in one way each.
-use crate::denials::Denial;
-use crate::gate::Gate;
-use crate::requests::Asking;
+use admission::{Asking, Denial, Gate};
 use family::Powers;
 use holder::{Capability, Check, Object, Port, Rights};
 use memory::{DirectoryRecord, FileRecord, Memory};
@@ -64,83 +62,63 @@ fn denied(asking: Asking, capability: Capability) -> Result<Option<Denial>, Fail
 
 #[test]
 fn objects_and_checks(rt: HostRuntime) -> Result<(), Fail> {
-    assert_eq!(rt; denied(Asking::CreateFile, owner(0, 2))?, None);
-    assert_eq!(rt; denied(Asking::Read, owner(1, 3))?, None);
-    assert_eq!(rt;
-        denied(Asking::Read, owner(2, 3))?,
-        Some(Denial::NoSuchObject),
-        "a free place"
-    );
-    assert_eq!(rt; denied(Asking::Destroy, owner(3, 5))?, None);
-    assert_eq!(rt;
-        denied(Asking::Destroy, owner(4, 5))?,
-        Some(Denial::NoSuchObject),
-        "past the last"
-    );
-    assert_eq!(rt;
-        denied(Asking::Read, owner(1, 104))?,
-        Some(Denial::WrongCheck),
-        "the modulus and 3"
-    );
-    let port = Port { bytes: [0; 6] };
-    assert_eq!(rt;
-        denied(
-            Asking::Read,
-            Capability {
-                port,
-                ..owner(4, 9)
-            },
-        )?,
-        Some(Denial::WrongPort),
-        "judged first"
-    );
+    let elsewhere = Capability {
+        port: Port { bytes: [0; 6] },
+        ..owner(4, 9)
+    };
+    for (asking, capability, expected) in [
+        (Asking::CreateFile, owner(0, 2), None),
+        (Asking::Read, owner(1, 3), None),
+        (Asking::Read, owner(2, 3), Some(Denial::NoSuchObject)), // a free place
+        (Asking::Destroy, owner(3, 5), None),
+        (Asking::Destroy, owner(4, 5), Some(Denial::NoSuchObject)), // past the last
+        (Asking::Read, owner(1, 104), Some(Denial::WrongCheck)), // the modulus and 3
+        (Asking::Read, elsewhere, Some(Denial::WrongPort)), // judged first
+    ] {
+        let denial = denied(asking, capability)?;
+        assert!(rt; denial == expected, "{asking:?}, {:?}", capability.object);
+    }
     Ok(())
 }
 
 #[test]
 fn kinds_before_rights(rt: HostRuntime) -> Result<(), Fail> {
-    assert_eq!(rt;
-        denied(Asking::Destroy, owner(0, 2))?,
-        Some(Denial::WrongKind)
-    );
-    assert_eq!(rt; denied(Asking::Size, owner(3, 5))?, Some(Denial::WrongKind));
-    assert_eq!(rt; denied(Asking::Revoke, owner(0, 2))?, None);
     let powerless = Capability {
         rights: Rights { bits: 0 },
         ..owner(1, 3)
     };
-    assert_eq!(rt;
-        denied(Asking::Read, powerless)?,
-        Some(Denial::WrongCheck),
-        "rights that were not dropped"
-    );
+    for (asking, capability, expected) in [
+        (Asking::Destroy, owner(0, 2), Some(Denial::WrongKind)),
+        (Asking::Size, owner(3, 5), Some(Denial::WrongKind)),
+        (Asking::Revoke, owner(0, 2), None),
+        (Asking::Read, powerless, Some(Denial::WrongCheck)), // rights that were not dropped
+    ] {
+        let denial = denied(asking, capability)?;
+        assert!(rt; denial == expected, "{asking:?}, {:?}", capability.object);
+    }
     Ok(())
 }
 
 #[test]
 fn rights_after_kinds(rt: HostRuntime) -> Result<(), Fail> {
     // right 0 dropped: modulo 101, 3 to the power 5 is 41, and 5 to the power 5 is 95
-    let rights = Rights { bits: 254 };
-    let file = Capability {
-        rights,
-        ..owner(1, 41)
-    };
-    assert_eq!(rt; denied(Asking::Read, file)?, Some(Denial::RightMissing));
-    assert_eq!(rt; denied(Asking::Size, file)?, None);
-    let directory = Capability {
-        rights,
-        ..owner(3, 95)
-    };
-    assert_eq!(rt;
-        denied(Asking::Read, directory)?,
-        Some(Denial::WrongKind),
-        "the kind is judged first"
-    );
+    for (asking, object, check, expected) in [
+        (Asking::Read, 1, 41, Some(Denial::RightMissing)),
+        (Asking::Size, 1, 41, None),
+        (Asking::Read, 3, 95, Some(Denial::WrongKind)), // the kind is judged first
+    ] {
+        let capability = Capability {
+            rights: Rights { bits: 254 },
+            ..owner(object, check)
+        };
+        let denial = denied(asking, capability)?;
+        assert!(rt; denial == expected, "{asking:?}, {:?}", capability.object);
+    }
     Ok(())
 }
 
 #[test]
 fn denials_as_plain_values(rt: HostRuntime) {
     let r = Denial::WrongKind.at(3);
-    assert_eq!(rt; (r.number, r.layer, r.place), (14, Layer::Store, 3));
+    assert!(rt; (r.number, r.layer, r.place) == (14, Layer::Store, 3));
 }
