@@ -10,6 +10,3 @@ pub use command::{carry_out, restrict_words};
 pub use report::{Listed, Report};
 pub use request::{Failure, FamilyLetter, Misuse, Request};
 pub use words::Words;
-
-#[cfg(test)]
-mod tests;

@@ -9,8 +9,6 @@ mod objects;
 mod reading;
 mod sources;
 mod step;
-#[cfg(test)]
-mod tests;
 mod verb;
 
 pub use kind::FamilyKind;

@@ -5,8 +5,6 @@ mod bytes;
 mod decimal;
 mod hexadecimal;
 mod refusal_line;
-#[cfg(test)]
-mod tests;
 
 pub use bytes::put;
 pub use decimal::{put_decimal, read_decimal};

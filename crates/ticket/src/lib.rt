@@ -9,6 +9,3 @@ mod tickets;
 pub use answers::Answer;
 pub use refusals::LineRefusal;
 pub use tickets::{Desk, Kept, LEAST, Ticket};
-
-#[cfg(test)]
-mod tests;

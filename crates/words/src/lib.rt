@@ -3,8 +3,6 @@
 
 mod forms;
 mod line;
-#[cfg(test)]
-mod tests;
 
 pub use forms::{Pocket, read_byte, read_letter, read_pocket, read_text};
 pub use line::{Word, is_well_formed, word_at};

@@ -1,7 +1,5 @@
 //! Lines that are steps, and the first faults of others.
-use crate::kind::FamilyKind;
-use crate::reading::read_step;
-use crate::step::{Misread, Step};
+use steps::{FamilyKind, Misread, Step, read_step};
 
 /// The place of the first fault, if there is one.
 fn fault(line: &[u8]) -> Option<u8> {
@@ -13,11 +11,15 @@ fn fault(line: &[u8]) -> Option<u8> {
 
 #[test]
 fn letters_stand_for_families(rt: HostRuntime) {
-    assert_eq!(rt; FamilyKind::with_letter('P'), Some(FamilyKind::Powers));
-    assert_eq!(rt; FamilyKind::with_letter('D'), Some(FamilyKind::Dickson));
-    assert_eq!(rt; FamilyKind::with_letter('Q'), None);
-    assert_eq!(rt; FamilyKind::with_letter('p'), None);
-    assert_eq!(rt; FamilyKind::Dickson.letter(), 'D');
+    for (letter, expected) in [
+        ('P', Some(FamilyKind::Powers)),
+        ('D', Some(FamilyKind::Dickson)),
+        ('Q', None),
+        ('p', None),
+    ] {
+        assert!(rt; FamilyKind::with_letter(letter) == expected, "{letter}");
+    }
+    assert!(rt; FamilyKind::Dickson.letter() == 'D');
 }
 
 #[test]
@@ -39,7 +41,7 @@ fn every_verb_is_read(rt: HostRuntime) {
         b"kill A0",
         b"new A0 7 A1",
     ] {
-        assert_eq!(rt; fault(line), None);
+        assert!(rt; fault(line).is_none(), "{line:?}");
     }
 }
 
@@ -108,30 +110,32 @@ fn read_by(line: &[u8]) -> [Option<(u8, u8)>; 2] {
 
 #[test]
 fn pockets_are_read_in_the_order_of_words(rt: HostRuntime) {
-    assert_eq!(rt; read_by(b"store P 7 0123456789ab 0"), [None, None]);
-    assert_eq!(rt; read_by(b"give B1 A0"), [Some((9, 2)), None]);
-    assert_eq!(rt; read_by(b"new B1 7 A0"), [Some((9, 2)), None]);
-    assert_eq!(rt; read_by(b"name B1 A0"), [Some((9, 2)), Some((0, 3))]);
-    assert_eq!(rt;
-        read_by(b"enter B1 pump A0 01 02 04"),
-        [Some((9, 2)), Some((0, 4))]
-    );
+    for (line, expected) in [
+        (b"store P 7 0123456789ab 0".as_slice(), [None, None]),
+        (b"give B1 A0", [Some((9, 2)), None]),
+        (b"new B1 7 A0", [Some((9, 2)), None]),
+        (b"name B1 A0", [Some((9, 2)), Some((0, 3))]),
+        (b"enter B1 pump A0 01 02 04", [Some((9, 2)), Some((0, 4))]),
+    ] {
+        assert!(rt; read_by(line) == expected, "{line:?}");
+    }
 }
 
 #[test]
 fn whole_lines_are_judged_first(rt: HostRuntime) {
-    for line in [
-        b" ".as_slice(),
-        b"fly  A0",
-        b"read A0 ",
-        b" read A0",
-        b"fly\tA0",
-        b"read A0\r",
+    let long = [b'a'; 256];
+    for (line, place) in [
+        (b" ".as_slice(), 0),
+        (b"fly  A0", 0),
+        (b"read A0 ", 0),
+        (b" read A0", 0),
+        (b"fly\tA0", 0),
+        (b"read A0\r", 0),
+        (&long, 0),
+        (&long[..255], 1),
     ] {
-        assert_eq!(rt; fault(line), Some(0));
+        assert!(rt; fault(line) == Some(place), "{line:?}");
     }
-    assert_eq!(rt; fault(&[b'a'; 256]), Some(0));
-    assert_eq!(rt; fault(&[b'a'; 255]), Some(1));
 }
 
 #[test]
@@ -145,7 +149,7 @@ fn first_words_are_judged_next(rt: HostRuntime) {
         b"A0 read",
         b"fly A9 0F",
     ] {
-        assert_eq!(rt; fault(line), Some(1));
+        assert!(rt; fault(line) == Some(1), "{line:?}");
     }
 }
 
@@ -173,6 +177,6 @@ fn faults_are_told_from_the_left(rt: HostRuntime) {
         (b"out A0", 3),
         (b"name A0 pump", 3),
     ] {
-        assert_eq!(rt; fault(line), Some(place));
+        assert!(rt; fault(line) == Some(place), "{line:?}");
     }
 }
