@@ -1,5 +1,5 @@
 -- What is printed of a script, line by line.
-use Rattle.std.proofs.Common.{◌≡◌, ℕ, ◌<◌, ◌≤◌, Bool, true, false, ◌&&◌, List, [], ◌∷◌, ◌++◌, None, Some, Option, Ok, Err, Result, IfOk, OnOk, IsErrAnd, MatchResult, IfSome, cond, eqb, length, refl, sym, ap, subst, ◌∙◌, arith, take_all, append_assoc, append-nil, length-take, ⊎_elim}
+use Rattle.std.proofs.Common.{◌≡◌, ℕ, ◌<◌, ◌≤◌, Bool, true, false, ◌&&◌, List, [], ◌∷◌, ◌++◌, None, Some, Option, Ok, Err, Result, IfErr, IfOk, OnOk, IsErrAnd, MatchResult, IfSome, cond, eqb, length, refl, sym, ap, subst, ◌∙◌, arith, take_all, append_assoc, append-nil, length-take, ⊎_elim}
 use Rattle.std.proofs.lemmas.Bool.{cases_lt, lt-leb}
 use Rattle.std.proofs.KnownBytes.{Appends-kept, Appends-nil, Appends-trans}
 use Rattle.std.specs.Io.KnownBytes.{Appends, Keeps}
@@ -15,8 +15,11 @@ use Rattle.script.specs.Places.{in_place, opens, out_of_place, stands_right, mis
 use Rattle.script.specs.Scripts.{Stage, answers, before, closed, during, first_passage, is_closed, passage, passed}
 use Rattle.steps.specs.Reading.{read_line}
 use Rattle.console.specs.Lines.{behind, cut, line_in, lines_in, onto_first, text_of}
-use Rattle.console.specs.Printing.{PrintsAnswers, unread}
+use Rattle.console.specs.Printing.{PrintsAnswers, PrintsFront, WhereUnread, unread}
 use Rattle.console.specs.Reading.{is_any}
+use Rattle.std.specs.declared.io.Error.{Error}
+use Rattle.console.specs.declared.errors.RunError.{RunError}
+use Rattle.console.specs.declared.errors.RunError.TheVariants.{Input, NoMemory, Output}
 
 -- ---- lines
 
@@ -47,6 +50,34 @@ came_through (Err e) told Q x P cases was holds = absurd (rw was at cases)
 pub on_ok : {A E P : Type 0} (r : Result A E) → P → OnOk r P
 on_ok (Ok x) holds = holds
 on_ok (Err e) holds = tt
+
+-- ---- errors
+
+-- an error of the reader
+pub unread_error : {A : Type 0} (P : Type 0) (r : Result A Error) (told : Result A RunError) (e : RunError)
+    → MatchResult r (λ y. told ≡ Ok y) (λ x. IsErrAnd told (λ d. d ≡ Input x)) → told ≡ Err e → P → WhereUnread e P
+unread_error P (Ok y) told e cases was holds = absurd (cc)
+unread_error P (Err x) told e cases was holds = let same : e ≡ Input x = rw was at cases in subst (λ d. WhereUnread d P) (sym same) holds
+
+-- an error of the writer
+pub unwritten : {A : Type 0} (P : Type 0) (r : Result A Error) (told : Result A RunError) (e : RunError)
+    → MatchResult r (λ y. told ≡ Ok y) (λ x. IsErrAnd told (λ d. d ≡ Output x)) → told ≡ Err e → WhereUnread e P
+unwritten P (Ok y) told e cases was = absurd (cc)
+unwritten P (Err x) told e cases was = let same : e ≡ Output x = rw was at cases in subst (λ d. WhereUnread d P) (sym same) tt
+
+pub any_unwritten : {A : Type 0} (P : Type 0) (r : Result A Error) (told : Result A RunError)
+    → MatchResult r (λ y. told ≡ Ok y) (λ x. IsErrAnd told (λ d. d ≡ Output x)) → IfErr told (λ e. WhereUnread e P)
+any_unwritten P r (Ok y) cases = tt
+any_unwritten P r (Err e) cases = unwritten P r (Err e) e cases refl
+
+-- what holds where an error is the writer's alone
+pub by_writer : {A : Type 0} (P : Type 0) (told : Result A RunError) (e : RunError) → IfErr told (λ e. WhereUnread e ⊥) → told ≡ Err e → WhereUnread e P
+by_writer P told e holds was = at e (rw was at holds)
+  where
+    at : (e : RunError) → WhereUnread e ⊥ → WhereUnread e P
+    at (Input x) none = absurd none
+    at (Output x) none = tt
+    at (NoMemory x) none = absurd none
 
 -- ---- lines that are too long
 
@@ -152,6 +183,15 @@ line_printed s input output now after left rest held more kept any so_far takes 
           same ∙ ap (λ l. so_far.bytes ++ l) (parted ys (sym is_line ∙ tells_here) line_here) ∙ sym (append_assoc so_far.bytes told (text_of (answers after (lines_in (behind ys))))),
           same_left ∙ unread_on ys (sym is_line ∙ tells_here) line_here,
         )
+
+-- what is printed so far is the front of the answers to all lines
+pub front_printed : (s : Stage) (input output : Option (List ℕ)) (now : Stage) (left held : Option (List ℕ)) → Printed s input output now left held → PrintsFront s input output held
+front_printed s None output now left held so_far = tt
+front_printed s (Some xs) output now left held so_far = at so_far.still
+  where
+    at : (ys : List ℕ) × (left ≡ Some ys) × (text_of (answers s (lines_in xs)) ≡ so_far.bytes ++ text_of (answers now (lines_in ys))) × (unread s (lines_in xs) ≡ unread now (lines_in ys))
+        → PrintsFront s (Some xs) output held
+    at (ys, known, same, same_left) = (so_far.bytes, text_of (answers now (lines_in ys)), (so_far.printed, same))
 
 -- where no line is answered any more, all are, and the others are left
 pub all_printed : (s : Stage) (input output : Option (List ℕ)) (now : Stage) (left rest held last : Option (List ℕ)) → Printed s input output now left held

@@ -1,14 +1,14 @@
 //! Running a script.
 ghost use Rattle.console.specs.LineLaw.{LawOfLines};
 ghost use Rattle.console.specs.Lines.{text_of};
-ghost use Rattle.console.specs.Printing.{PrintsAnswers};
+ghost use Rattle.console.specs.Printing.{PrintsAnswers, PrintsFront, WhereUnread};
 ghost use Rattle.console.specs.Rooms.{held_in};
 ghost use Rattle.memory.specs.Held.{content};
 ghost use Rattle.script.specs.Beginning.{stage_of};
 ghost use Rattle.script.specs.Scripts.{answers, before, behind};
 ghost use Rattle.std.specs.Io.Buffered.{reader_remaining};
 ghost use Rattle.std.specs.Io.KnownBytes.{Appends};
-ghost use Rattle.std.specs.Prelude.{◌≡◌, ◌∷◌, [], OnOk};
+ghost use Rattle.std.specs.Prelude.{◌≡◌, ◌∷◌, [], IfErr, OnOk};
 
 use crate::errors::RunError;
 use crate::lines::Line;
@@ -27,6 +27,7 @@ fn print_answer<W: Write>(
     output: &mut W,
 ) -> Result<(), RunError>
     ensures prints { OnOk result (Appends (W.contents output.old) (W.contents output.new) (text_of (answers (stage_of script.old (content memory.old)) (line.now ∷ [])))) }
+    ensures output { IfErr result (λ e. WhereUnread e ⊥) }
     ensures stage { stage_of script.new (content memory.new) ≡ behind (stage_of script.old (content memory.old)) (line.now ∷ []) }
 {
     let mut out = [0; LEAST];
@@ -43,7 +44,8 @@ fn print_answers<R: Read + Drop, W: Write>(
     input: &mut BufReader<R>,
     output: &mut W,
 ) -> Result<(), RunError>
-    ensures { OnOk result (PrintsAnswers (before (content memory.old)) (reader_remaining R.remaining input.old) (reader_remaining R.remaining input.new) (W.contents output.old) (W.contents output.new)) }
+    ensures prints { OnOk result (PrintsAnswers (before (content memory.old)) (reader_remaining R.remaining input.old) (reader_remaining R.remaining input.new) (W.contents output.old) (W.contents output.new)) }
+    ensures front { IfErr result (λ e. WhereUnread e (PrintsFront (before (content memory.old)) (reader_remaining R.remaining input.old) (W.contents output.old) (W.contents output.new))) }
 {
     let mut script = Script::Waiting;
     let mut desk = Desk;
@@ -68,6 +70,7 @@ pub fn run<R: Read + Drop, W: Write>(
     room: &mut Room,
 ) -> Result<(), RunError>
     ensures prints { OnOk result (PrintsAnswers (before (held_in room.old)) (reader_remaining R.remaining input.old) (reader_remaining R.remaining input.new) (W.contents output.old) (W.contents output.new)) }
+    ensures front { IfErr result (λ e. WhereUnread e (PrintsFront (before (held_in room.old)) (reader_remaining R.remaining input.old) (W.contents output.old) (W.contents output.new))) }
     ensures law { LawOfLines }
 {
     let mut memory = Memory {

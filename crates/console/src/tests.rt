@@ -1,6 +1,6 @@
 //! Scripts from memory to memory: lines at their edges, and readers that give few bytes at a time.
 use crate::{Room, RunError, run};
-use std::io::{self, BufReader, Write};
+use std::io::{self, BufReader, ErrorKind, Read, Write};
 use std::test::Fail;
 
 const STORE: &[u8] = b"store P 2147483647 50554d503031 7\n";
@@ -158,5 +158,55 @@ fn lines_behind_a_refused_first_one_are_left_in_the_reader(
             assert!(rt; output.as_slice() == lines);
         }
     }
+    Ok(())
+}
+
+/// A reader that fails where others are at their end.
+#[derive(Drop)]
+struct Broken<'a> {
+    bytes: &'a [u8],
+}
+
+impl Read for Broken<'_> {
+    fn read(&mut self, buf: &mut [u8]) -> io::Result<usize> {
+        if self.bytes.is_empty() {
+            return Err(ErrorKind::InvalidData.into());
+        }
+        self.bytes.read(buf)
+    }
+}
+
+#[test]
+fn whole_lines_before_a_failed_read_are_answered(rt: HostRuntime) -> Result<(), RunError> {
+    let alloc = rt.alloc();
+    let bytes = b"store P 2147483647 50554d503031 7\nsize A0\nsize A0".as_slice();
+    let mut input = BufReader::new(alloc, Broken { bytes }).map_err(RunError::Input)?;
+    let mut output = Vec::new(alloc);
+    let ended = run(&mut input, &mut output, &mut Room::new(alloc)?);
+    assert!(rt; matches!(ended, Err(RunError::Input(_))));
+    assert!(rt; output.strip_prefix(OWNER) == Some(b"no 14 S 0\n".as_slice()));
+    Ok(())
+}
+
+/// A writer that has room for nothing.
+#[derive(Drop)]
+struct Full;
+
+impl Write for Full {
+    fn write(&mut self, _: &[u8]) -> io::Result<usize> {
+        Err(ErrorKind::StorageFull.into())
+    }
+
+    fn flush(&mut self) -> io::Result<()> {
+        Ok(())
+    }
+}
+
+#[test]
+fn a_failed_write_is_told_as_such(rt: HostRuntime) -> Result<(), RunError> {
+    let alloc = rt.alloc();
+    let mut input = BufReader::new(alloc, b"size A0\n".as_slice()).map_err(RunError::Input)?;
+    let ended = run(&mut input, &mut Full, &mut Room::new(alloc)?);
+    assert!(rt; matches!(ended, Err(RunError::Output(_))));
     Ok(())
 }

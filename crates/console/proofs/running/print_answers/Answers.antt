@@ -7,15 +7,16 @@ use Rattle.script.specs.Beginning.{stage_of}
 use Rattle.script.specs.Scripts.{answers, is_closed, passed}
 use Rattle.console.specs.Lines.{behind, cut, line_in, text_of}
 use Rattle.console.specs.Reading.{is_any, kept}
-use Rattle.console.proofs.PrintFacts.{all_printed, came_through, closed_none, empty_none, line_printed, nothing_printed, on_ok}
+use Rattle.std.proofs.lemmas.Result.{err_from_is_err_and}
+use Rattle.console.proofs.PrintFacts.{all_printed, any_unwritten, by_writer, came_through, closed_none, empty_none, front_printed, line_printed, nothing_printed, on_ok, unread_error, unwritten}
 use Rattle.console.proofs.running.print_answers.Goals.{then-is_closed-via-then-is_closed, then-is_closed-via-else-is_closed+in_ok-map_err+then-not-branch, then-is_empty+in_ok-map_err-2, else-is_empty}
 use Rattle.console.proofs.running.print_answers.Goals as goal
 
 pub loop-init : goal.loop-init
 loop-init g c = nothing_printed _ _ _
 
-pub returns-then-is_closed : goal.returns-then-is_closed
-returns-then-is_closed g c =
+pub returns-then-is_closed-clause-prints : goal.returns-then-is_closed-clause-prints
+returns-then-is_closed-clause-prints g c =
     let now = stage_of c.loop.script (content c.loop.memory) in
     let left = reader_remaining g.R.Read.remaining c.loop.input in
     let last = reader_remaining g.R.Read.remaining c.then-is_closed.input in
@@ -48,3 +49,24 @@ loop-preserved g c =
     let goes = c.print_answer.ensures.stage ∙ ap (λ l. (passed now l).after) c.bytes.ensures.value in
     let next = stage_of c.print_answer.new.script (content c.print_answer.new.memory) in
     line_printed _ _ _ now next left rest held (g.W.Write.contents c.if-is_empty.output) line told c.loop.invariant takes c.if-not-branch.false tells is behind_it adds goes
+
+pub returns-in_err-map_err-clause-front : goal.returns-in_err-map_err-clause-front
+returns-in_err-map_err-clause-front g c =
+    let p = err_from_is_err_and c.from_residual.result c.from_residual.ensures.1 in
+    rw (p.1, p.2) (unread_error _ c.read.result c.map_err.result c.in_err-map_err.field-0.0 c.map_err.ensures.cases c.in_err-map_err.was (front_printed _ _ _ _ _ _ c.loop.invariant))
+
+pub returns-then-is_closed-clause-front : goal.returns-then-is_closed-clause-front
+returns-then-is_closed-clause-front g c = any_unwritten _ c.flush.result c.map_err-then-is_closed.result c.map_err-then-is_closed.ensures.cases
+
+pub returns-in_err-print_answer-clause-front : goal.returns-in_err-print_answer-clause-front
+returns-in_err-print_answer-clause-front g c =
+    let p = err_from_is_err_and c.from_residual-in_err-print_answer.result c.from_residual-in_err-print_answer.ensures.1 in
+    rw (p.1, p.2) (by_writer _ c.print_answer.result c.in_err-print_answer.field-0.0 c.print_answer.ensures.output c.in_err-print_answer.was)
+
+pub returns-in_err-map_err-2-clause-front : goal.returns-in_err-map_err-2-clause-front
+returns-in_err-map_err-2-clause-front g c =
+    let p = err_from_is_err_and c.from_residual-in_err-map_err-2.result c.from_residual-in_err-map_err-2.ensures.1 in
+    rw (p.1, p.2) (unwritten _ c.flush-then-is_empty.result c.map_err-then-is_empty.result c.in_err-map_err-2.field-0.0 c.map_err-then-is_empty.ensures.cases c.in_err-map_err-2.was)
+
+pub returns-clause-front : goal.returns-clause-front
+returns-clause-front g c = front_printed _ _ _ _ _ _ c.loop.invariant
