@@ -6,13 +6,12 @@ ghost use Rattle.store_tests.specs.Masking.{masks_commute, masked_below};
 
 use admission::Denial;
 use family::CommutingFamily;
-use holder::Mask;
 use memory::Memory;
 use runs::{Gate, open};
 use secret::{SETS, Secret};
 use std::test::Fail;
 use store::StoreRefusal;
-use store_bench::{Bench, PORT, Room, lend, masks, old_file};
+use store_bench::{PORT, Room, Step, lend, masks, take};
 
 /// The identity over 1000: lawful, though no secret is fit in it.
 #[derive(Clone, Copy)]
@@ -62,85 +61,71 @@ impl CommutingFamily for Clearing {
     }
 }
 
-#[test]
-fn no_secret_is_fit_in_the_identity(rt: HostRuntime) {
-    let mut room = Room::new();
-    let mut memory = lend!(room);
-    let mut scratch = [9; SETS];
+/// Why a store over the identity is not opened, if it is not.
+fn refused_over_the_identity(memory: &mut Memory, scratch: &mut [u64]) -> Option<StoreRefusal> {
     let gate = Gate {
         family: Unmoving,
         port: PORT,
         secret: Secret::new(7),
     };
-    let refused = open(gate, &mut memory, &mut scratch).err();
-    assert_eq!(rt; refused, Some(StoreRefusal::UnfitSecret));
-    assert_eq!(rt; scratch, [0; SETS]);
-    assert_eq!(rt;
-        room.files[0].start,
-        old_file().start,
-        "memory is as it was"
-    );
-    assert_eq!(rt; room.area, [9; 16]);
+    open(gate, memory, scratch).err()
 }
 
 #[test]
-fn two_secrets_share_what_they_are_thinned_to(rt: HostRuntime) -> Result<(), Fail> {
+fn no_secret_is_fit_in_the_identity(rt: HostRuntime) {
     let mut room = Room::new();
     let mut memory = lend!(room);
-    let gate = Gate {
+    let mut scratch = [9; SETS];
+    let refused = refused_over_the_identity(&mut memory, &mut scratch);
+    assert_eq!(rt; refused, Some(StoreRefusal::UnfitSecret));
+    assert!(rt; scratch == [0; SETS], "the scratch is wiped");
+    assert!(rt; room.is_same(&Room::new()), "memory is as it was");
+}
+
+/// A store of numbers of nine bits.
+fn clearing_gate() -> Gate<Clearing> {
+    Gate {
         family: Clearing,
         port: PORT,
         secret: Secret::new(255),
-    };
-    let mut bench = Bench::new(gate, &mut memory)?;
-    let run = bench.file(&mut memory, b"abc", 255)?;
-    let reader = run.thin_to(&Clearing, Mask { bits: 1 })?;
-    assert_eq!(rt; reader.check.number(), 1);
-    assert_eq!(rt; bench.read(&memory, reader)?, b"abc".as_slice());
-    let again = bench.revoke(&mut memory, run, 511)?;
-    assert_eq!(rt;
-        bench.read(&memory, run).err(),
-        Some(StoreRefusal::Denied(Denial::WrongCheck, 0)),
-        "the old owner capability"
-    );
-    assert_eq!(rt; bench.read(&memory, reader)?, b"abc".as_slice());
-    assert_eq!(rt;
-        again.thin_to(&Clearing, Mask { bits: 1 })?,
-        reader,
-        "the same sixteen bytes"
-    );
+    }
+}
+
+static SHARED: [Step; 9] = [
+    Step::File(b"abc", 255, Ok(1)),
+    Step::Thin(1, 1, Ok(1)),
+    Step::Check(2, 1),
+    Step::Read(2, Ok(b"abc")),
+    Step::Revoke(1, 511, Ok(1)),
+    // The old owner capability.
+    Step::Read(1, Err(StoreRefusal::Denied(Denial::WrongCheck, 0))),
+    Step::Read(2, Ok(b"abc")),
+    // The same sixteen bytes.
+    Step::Thin(3, 1, Ok(1)),
+    Step::Same(4, 2),
+];
+
+#[test]
+fn two_secrets_share_what_they_are_thinned_to(rt: HostRuntime) -> Result<(), Fail> {
+    take(&rt, clearing_gate(), &SHARED)?;
     Ok(())
 }
 
 #[test]
 fn the_whole_capability_of_a_row_is_judged(rt: HostRuntime) -> Result<(), Fail> {
-    let mut room = Room::new();
-    let mut memory = lend!(room);
-    let gate = Gate {
-        family: Clearing,
-        port: PORT,
-        secret: Secret::new(255),
-    };
-    let mut bench = Bench::new(gate, &mut memory)?;
-    let run = bench.file(&mut memory, b"abc", 255)?;
-    let directory = bench.directory(&mut memory, 255)?;
-    bench.enter(&mut memory, directory, b"run", run, masks(1, 1, 1))?;
-    let reader = bench.look_up(&memory, directory, b"run")?;
-    assert_eq!(rt; reader, run.thin_to(&Clearing, Mask { bits: 1 })?);
-    let _ = bench.revoke(&mut memory, run, 511)?;
-    assert_eq!(rt;
-        bench.read(&memory, reader)?,
-        b"abc".as_slice(),
-        "what the row showed is still accepted"
-    );
-    assert_eq!(rt;
-        bench.look_up(&memory, directory, b"run"),
-        Err(StoreRefusal::RowNotAccepted(0)),
-        "what it holds is not"
-    );
-    assert_eq!(rt;
-        bench.walk(&memory, directory, b"run"),
-        Err(StoreRefusal::RowNotAccepted(1))
-    );
+    let steps = [
+        Step::File(b"abc", 255, Ok(1)),
+        Step::Directory(255, Ok(4)),
+        Step::Enter(2, b"run", 1, masks(1, 1, 1), Ok(())),
+        Step::Thin(1, 1, Ok(1)),
+        Step::LookUp(2, b"run", Ok(3)),
+        Step::Revoke(1, 511, Ok(1)),
+        // What the row showed is still accepted.
+        Step::Read(3, Ok(b"abc")),
+        // What it holds is not.
+        Step::LookUp(2, b"run", Err(StoreRefusal::RowNotAccepted(0))),
+        Step::Walk(2, b"run", Err(StoreRefusal::RowNotAccepted(1))),
+    ];
+    take(&rt, clearing_gate(), &steps)?;
     Ok(())
 }

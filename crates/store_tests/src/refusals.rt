@@ -4,7 +4,7 @@ use refusal::{Layer, Refusal};
 use store::StoreRefusal;
 
 /// Each refusal with its number and its place.
-const REFUSALS: [(StoreRefusal, u8, u8); 18] = [
+static REFUSALS: [(StoreRefusal, u8, u8); 18] = [
     (StoreRefusal::WrongSizes, 1, 0),
     (StoreRefusal::UnsoundMemory, 2, 0),
     (StoreRefusal::UnfitSecret, 3, 0),

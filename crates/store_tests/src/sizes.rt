@@ -8,19 +8,7 @@ use secret::{SETS, Secret};
 use std::alloc::Global;
 use std::test::Fail;
 use store::StoreRefusal;
-use store_bench::{Bench, Room, gate, lend, old_directory, old_file, old_row};
-
-/// Why a revoke that brings this scratch is refused, if it is.
-fn revoked(
-    bench: &mut Bench<Powers>,
-    memory: &mut Memory,
-    run: Capability,
-    secret: u64,
-    scratch: &mut [u64],
-) -> Option<StoreRefusal> {
-    let secret = Secret::new(secret);
-    bench.store.revoke(memory, run, secret, scratch).err()
-}
+use store_bench::{Bench, Room, Step, Taken, gate, lend, old_directory, old_file, old_row, take};
 
 /// Numbers of records, rows, bytes and numbers of scratch.
 #[derive(Clone, Copy)]
@@ -48,8 +36,22 @@ const LARGEST: Sizes = Sizes {
     scratch: SETS,
 };
 
-/// Whether opening over memory of these sizes is refused, and if so whether memory and scratch are as they were.
-fn refused(heap: Global, sizes: Sizes) -> Result<Option<bool>, Fail> {
+/// Why opening over this memory with this scratch is refused, if it is.
+fn opened(memory: &mut Memory, scratch: &mut [u64]) -> Result<Option<StoreRefusal>, Fail> {
+    Ok(open(gate()?, memory, scratch).err())
+}
+
+/// Whether memory and scratch are as they were made.
+fn is_untouched(memory: &Memory, scratch: &[u64]) -> bool {
+    memory.files.iter().all(|file| file.live)
+        && memory.directories.iter().all(|directory| directory.live)
+        && memory.rows.iter().all(|row| row.length == 3)
+        && memory.area.iter().all(|byte| *byte == 9)
+        && scratch.iter().all(|number| *number == 9)
+}
+
+/// Why opening over memory of these sizes is refused, if it is, and whether memory and scratch are as they were.
+fn refused(heap: Global, sizes: Sizes) -> Result<(Option<StoreRefusal>, bool), Fail> {
     let mut files = vec![in heap; old_file(); sizes.files]?;
     let mut directories = vec![in heap; old_directory(); sizes.directories]?;
     let mut rows = vec![in heap; old_row(); sizes.rows]?;
@@ -61,30 +63,20 @@ fn refused(heap: Global, sizes: Sizes) -> Result<Option<bool>, Fail> {
         rows: &mut rows,
         area: &mut area,
     };
-    match open(gate()?, &mut memory, &mut scratch) {
-        Ok(_) => Ok(None),
-        Err(StoreRefusal::WrongSizes) => {
-            let same = files.iter().all(|file| file.live)
-                && directories.iter().all(|directory| directory.live)
-                && rows.iter().all(|row| row.length == 3)
-                && area.iter().all(|byte| *byte == 9)
-                && scratch.iter().all(|number| *number == 9);
-            Ok(Some(same))
-        }
-        Err(_) => Err(Fail::new("refused for another reason")),
-    }
+    let refusal = opened(&mut memory, &mut scratch)?;
+    Ok((refusal, is_untouched(&memory, &scratch)))
 }
 
 #[test]
 fn sizes_within_the_limits(rt: HostRuntime) -> Result<(), Fail> {
     for sizes in [SMALLEST, LARGEST] {
-        assert_eq!(rt; refused(rt.alloc(), sizes)?, None);
+        assert_eq!(rt; refused(rt.alloc(), sizes)?.0, None);
     }
     Ok(())
 }
 
 /// One past a limit each, or with a number of rows that the directories do not have.
-const WRONG: [Sizes; 9] = [
+static WRONG: [Sizes; 9] = [
     Sizes {
         files: 0,
         ..SMALLEST
@@ -128,7 +120,8 @@ const WRONG: [Sizes; 9] = [
 #[test]
 fn sizes_past_the_limits(rt: HostRuntime) -> Result<(), Fail> {
     for sizes in WRONG {
-        assert_eq!(rt; refused(rt.alloc(), sizes)?, Some(true));
+        let wanted = (Some(StoreRefusal::WrongSizes), true);
+        assert_eq!(rt; refused(rt.alloc(), sizes)?, wanted);
     }
     Ok(())
 }
@@ -137,81 +130,131 @@ fn sizes_past_the_limits(rt: HostRuntime) -> Result<(), Fail> {
 macro_rules! lend_part {
     ($room:ident, $sizes:ident) => {
         Memory {
-            files: $room.files.get_mut(..$sizes.files).ok_or("too many files")?,
-            directories: $room
-                .directories
-                .get_mut(..$sizes.directories)
-                .ok_or("too many directories")?,
-            rows: $room.rows.get_mut(..$sizes.rows).ok_or("too many rows")?,
-            area: $room.area.get_mut(..$sizes.area).ok_or("too many bytes")?,
+            files: $room.files.get_mut(..$sizes.files)?,
+            directories: $room.directories.get_mut(..$sizes.directories)?,
+            rows: $room.rows.get_mut(..$sizes.rows)?,
+            area: $room.area.get_mut(..$sizes.area)?,
         }
     };
 }
 
+/// A store opened over a part of a room.
+#[derive(Drop)]
+struct Begun {
+    bench: Bench<Powers>,
+    room: Room,
+    run: Capability,
+}
+
+/// A store with a file over so much of a room, if it has so much and all is granted.
+fn begin(sizes: Sizes) -> Option<Begun> {
+    let mut room = Room::new();
+    let mut memory = lend_part!(room, sizes);
+    let mut bench = Bench::new(gate().ok()?, &mut memory).ok()?;
+    let run = bench.file(&mut memory, b"abc", 11).ok()?;
+    Some(Begun { bench, room, run })
+}
+
+/// What a store tells of a file's size over so much of a room, if it has so much.
+fn size_within(
+    bench: &Bench<Powers>,
+    mut room: Room,
+    run: Capability,
+    sizes: Sizes,
+) -> Option<Result<u64, StoreRefusal>> {
+    let memory = lend_part!(room, sizes);
+    Some(bench.size(&memory, run))
+}
+
+const BEGUN: Sizes = Sizes {
+    files: 2,
+    directories: 1,
+    rows: 16,
+    area: 8,
+    scratch: SETS,
+};
+
+/// One less and one more of each.
+static OTHERS: [Sizes; 8] = [
+    Sizes { files: 1, ..BEGUN },
+    Sizes { files: 3, ..BEGUN },
+    Sizes {
+        directories: 0,
+        ..BEGUN
+    },
+    Sizes {
+        directories: 2,
+        ..BEGUN
+    },
+    Sizes { rows: 15, ..BEGUN },
+    Sizes { rows: 17, ..BEGUN },
+    Sizes { area: 7, ..BEGUN },
+    Sizes { area: 9, ..BEGUN },
+];
+
 #[test]
 fn sizes_other_than_at_the_opening(rt: HostRuntime) -> Result<(), Fail> {
-    let mut room = Room::new();
-    let opened = Sizes {
-        files: 2,
-        directories: 1,
-        rows: 16,
-        area: 8,
-        scratch: SETS,
+    let Begun { bench, room, run } = begin(BEGUN).ok_or("not begun")?;
+    assert_eq!(rt; size_within(&bench, room, run, BEGUN), Some(Ok(3)));
+    let wanted = Some(Err(StoreRefusal::WrongSizes));
+    for sizes in OTHERS {
+        assert_eq!(rt; size_within(&bench, room, run, sizes), wanted);
+    }
+    Ok(())
+}
+
+static FILED: [Step; 1] = [Step::File(b"abc", 11, Ok(1))];
+
+/// Why a revoke is refused, if it is, and whether all of its scratch is this number then.
+fn revoked(
+    bench: &mut Bench<Powers>,
+    memory: &mut Memory,
+    run: Capability,
+    secret: u64,
+    scratch: &mut [u64],
+    left: u64,
+) -> (Option<StoreRefusal>, bool) {
+    let secret = Secret::new(secret);
+    let refusal = bench.store.revoke(memory, run, secret, scratch).err();
+    (refusal, scratch.iter().all(|number| *number == left))
+}
+
+#[test]
+fn scratches_are_wiped(rt: HostRuntime) -> Result<(), Fail> {
+    let Taken {
+        mut bench,
+        mut room,
+        given,
+    } = take(&rt, gate()?, &FILED)?;
+    let mut memory = lend!(room);
+    let run = given.at(1);
+    let unknown = Capability {
+        rights: Rights { bits: 1 },
+        ..run
     };
-    let mut memory = lend_part!(room, opened);
-    let mut bench = Bench::new(gate()?, &mut memory)?;
-    let run = bench.file(&mut memory, b"abc", 11)?;
-    assert_eq!(rt; bench.size(&memory, run), Ok(3));
-    let others = [
-        Sizes { files: 1, ..opened },
-        Sizes { files: 3, ..opened },
-        Sizes {
-            directories: 0,
-            ..opened
-        },
-        Sizes {
-            directories: 2,
-            ..opened
-        },
-        Sizes { rows: 15, ..opened },
-        Sizes { rows: 17, ..opened },
-        Sizes { area: 7, ..opened },
-        Sizes { area: 9, ..opened },
+    // Wiped though the secret is refused, and though the check is.
+    let cases = [
+        (run, 11, StoreRefusal::UnfitSecret),
+        (unknown, 13, StoreRefusal::Denied(Denial::WrongCheck, 0)),
     ];
-    for sizes in others {
-        let memory = lend_part!(room, sizes);
-        assert_eq!(rt; bench.size(&memory, run), Err(StoreRefusal::WrongSizes));
+    for (shown, secret, refusal) in cases {
+        let mut scratch = [9; SETS];
+        let came = revoked(&mut bench, &mut memory, shown, secret, &mut scratch, 0);
+        assert_eq!(rt; came, (Some(refusal), true));
     }
     Ok(())
 }
 
 #[test]
-fn scratches(rt: HostRuntime) -> Result<(), Fail> {
-    let mut room = Room::new();
+fn a_scratch_of_another_size_is_not_wiped(rt: HostRuntime) -> Result<(), Fail> {
+    let Taken {
+        mut bench,
+        mut room,
+        given,
+    } = take(&rt, gate()?, &FILED)?;
     let mut memory = lend!(room);
-    let mut bench = Bench::new(gate()?, &mut memory)?;
-    let run = bench.file(&mut memory, b"abc", 11)?;
-    let mut scratch = [9; SETS];
-    assert_eq!(rt;
-        revoked(&mut bench, &mut memory, run, 11, &mut scratch),
-        Some(StoreRefusal::UnfitSecret)
-    );
-    assert_eq!(rt; scratch, [0; SETS], "wiped though the secret is refused");
-    let unknown = Capability {
-        rights: Rights { bits: 1 },
-        ..run
-    };
-    scratch = [9; SETS];
-    assert_eq!(rt;
-        revoked(&mut bench, &mut memory, unknown, 13, &mut scratch),
-        Some(StoreRefusal::Denied(Denial::WrongCheck, 0))
-    );
-    assert_eq!(rt; scratch, [0; SETS], "wiped though the check is refused");
     let mut short = [9; 255];
-    assert_eq!(rt;
-        revoked(&mut bench, &mut memory, run, 13, &mut short),
-        Some(StoreRefusal::WrongSizes)
-    );
-    assert_eq!(rt; short, [9; 255], "not wiped where it has another size");
+    let came = revoked(&mut bench, &mut memory, given.at(1), 13, &mut short, 9);
+    assert_eq!(rt; came, (Some(StoreRefusal::WrongSizes), true));
     Ok(())
 }

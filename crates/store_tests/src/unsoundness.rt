@@ -1,11 +1,12 @@
 //! Memory that was spoilt between two requests, in each way that there is: refused, and left as it is.
 use family::Powers;
 use holder::{Capability, Check, Port};
-use memory::{DirectoryRecord, FileRecord, Memory, Row};
+use memory::{DirectoryRecord, FileRecord, Row};
 use secret::Secret;
+use std::process::Abort;
 use std::test::Fail;
 use store::StoreRefusal;
-use store_bench::{Bench, MODULUS, Room, gate, lend, old_row};
+use store_bench::{MODULUS, Step, Taken, gate, go_on, old_row, take};
 
 /// What is wrong with the memory.
 #[derive(Clone, Copy, Debug)]
@@ -24,7 +25,7 @@ enum Flaw {
     Check,
 }
 
-const FLAWS: [Flaw; 12] = [
+static FLAWS: [Flaw; 12] = [
     Flaw::SecretOfAFile,
     Flaw::SecretOfADirectory,
     Flaw::PastTheArea,
@@ -108,14 +109,6 @@ fn spoilt_row(flaw: Flaw, row: Row) -> Result<Row, Fail> {
     })
 }
 
-/// A store with two files of one byte and a directory of two rows, the memory that it lies in, and the first file's owner capability.
-#[derive(Drop)]
-struct Prepared {
-    bench: Bench<Powers>,
-    room: Room,
-    run: Capability,
-}
-
 /// A row with a name of one byte.
 fn row(name: u8, capability: Capability) -> Row {
     Row {
@@ -126,50 +119,43 @@ fn row(name: u8, capability: Capability) -> Row {
     }
 }
 
-fn prepare() -> Result<Prepared, Fail> {
-    let mut room = Room::new();
-    let mut memory = lend!(room);
-    let mut bench = Bench::new(gate()?, &mut memory)?;
-    let run = bench.file(&mut memory, b"x", 11)?;
-    let other = bench.file(&mut memory, b"y", 13)?;
-    let _ = bench.directory(&mut memory, 17)?;
-    room.rows[0] = row(b'a', run);
-    room.rows[1] = row(b'b', other);
-    room.directories[0].count = 2;
-    Ok(Prepared { bench, room, run })
+/// Two files of one byte, and a directory.
+static STORED: [Step; 3] = [
+    Step::File(b"x", 11, Ok(1)),
+    Step::File(b"y", 13, Ok(2)),
+    Step::Directory(17, Ok(4)),
+];
+
+/// A store with two files of one byte and a directory of two rows.
+fn prepare(rt: &impl Abort) -> Result<Taken<Powers>, Fail> {
+    let mut taken = take(rt, gate()?, &STORED)?;
+    taken.room.rows[0] = row(b'a', taken.given.at(1));
+    taken.room.rows[1] = row(b'b', taken.given.at(2));
+    taken.room.directories[0].count = 2;
+    Ok(taken)
 }
+
+static WHOLE: [Step; 1] = [Step::Size(1, Ok(1))];
 
 #[test]
 fn the_memory_without_a_flaw(rt: HostRuntime) -> Result<(), Fail> {
-    let Prepared {
-        bench,
-        mut room,
-        run,
-    } = prepare()?;
-    let memory = lend!(room);
-    assert_eq!(rt; bench.size(&memory, run), Ok(1));
+    go_on(&rt, prepare(&rt)?, &WHOLE);
     Ok(())
 }
+
+static REFUSED: [Step; 1] = [Step::Destroy(1, Err(StoreRefusal::UnsoundMemory))];
 
 #[test]
 fn each_flaw_is_refused_and_left_alone(rt: HostRuntime) -> Result<(), Fail> {
     for flaw in FLAWS {
-        let Prepared {
-            bench,
-            mut room,
-            run,
-        } = prepare()?;
+        let mut taken = prepare(&rt)?;
+        let room = &mut taken.room;
         room.files[0] = spoilt_file(flaw, room.files[0]);
         room.directories[0] = spoilt_directory(flaw, room.directories[0]);
         room.rows[1] = spoilt_row(flaw, room.rows[1])?;
-        let before = room;
-        let mut memory = lend!(room);
-        assert_eq!(rt;
-            bench.destroy(&mut memory, run),
-            Err(StoreRefusal::UnsoundMemory),
-            "{flaw:?}"
-        );
-        assert!(rt; room.is_same(&before), "{flaw:?}");
+        let before = taken.room;
+        let after = go_on(&rt, taken, &REFUSED);
+        assert!(rt; after.room.is_same(&before), "{flaw:?}");
     }
     Ok(())
 }
