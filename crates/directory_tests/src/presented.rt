@@ -1,92 +1,78 @@
 //! What a capability presented to a directory must be, for each request to one.
+use crate::asked::{ALL, Asked, refused};
 use admission::Denial;
 use family::Powers;
 use holder::{Capability, Port};
 use memory::Memory;
 use std::test::Fail;
 use store::StoreRefusal;
-use store_bench::{Archive, Bench, OPEN, Room, lend, not_accepted, thinned};
+use store_bench::{Bench, OPEN, Room, Step, Taken, gate, lend, not_accepted, take, thinned};
 
-/// A request to a directory.
-#[derive(Clone, Copy, Debug)]
-enum Asked {
-    Enter,
-    Remove,
-    Row,
-    Name,
-    LookUp,
-    Walk,
-}
+/// The run, the first capability given after the store's.
+const RUN: usize = 1;
 
-const ALL: [Asked; 6] = [
-    Asked::Enter,
-    Asked::Remove,
-    Asked::Row,
-    Asked::Name,
-    Asked::LookUp,
-    Asked::Walk,
+/// The directory that has a row of it, given next.
+const DIRECTORY: usize = 2;
+
+static FILLED: [Step; 3] = [
+    Step::File(b"abc", 11, Ok(1)),
+    Step::Directory(13, Ok(4)),
+    Step::Enter(DIRECTORY, b"run", RUN, OPEN, Ok(())),
 ];
 
-impl Asked {
-    /// The rights of which one is asked for.
-    fn rights(self) -> u8 {
-        match self {
-            Asked::Enter | Asked::Remove => 8,
-            Asked::Row | Asked::Name | Asked::LookUp | Asked::Walk => 7,
-        }
-    }
-
-    /// The place of a fault of the capability presented.
-    fn place(self) -> u8 {
-        match self {
-            Asked::Walk => 1,
-            _ => 0,
-        }
-    }
-
-    fn denied(self, denial: Denial) -> Option<StoreRefusal> {
-        Some(StoreRefusal::Denied(denial, self.place()))
-    }
-}
-
-/// Why a request for a row of a name, or for a new one where it is entered, is refused, if it is.
-fn refused(
+/// Why a request is refused by a name that is neither lawful nor a path, where the other directory counts so many rows and the area has so many bytes.
+fn refused_over(
     bench: &Bench<Powers>,
-    memory: &mut Memory,
+    mut room: Room,
+    count: u64,
+    area: usize,
     asked: Asked,
     shown: Capability,
-    name: &[u8],
     entry: Capability,
 ) -> Option<StoreRefusal> {
+    room.directories[1].count = count;
+    let mut memory = Memory {
+        files: &mut room.files,
+        directories: &mut room.directories,
+        rows: &mut room.rows,
+        area: room.area.get_mut(..area)?,
+    };
+    refused(bench, &mut memory, asked, shown, b"/", entry)
+}
+
+/// Why a request is refused by that name over sound memory, with a capability of another store.
+fn refused_by_name(asked: Asked) -> Option<StoreRefusal> {
     match asked {
-        Asked::Enter => bench.enter(memory, shown, name, entry, OPEN).err(),
-        Asked::Remove => bench.remove(memory, shown, name).err(),
-        Asked::Row => bench.row(memory, shown, 0).err(),
-        Asked::Name => bench.name(memory, shown, entry.object).err(),
-        Asked::LookUp => bench.look_up(memory, shown, name).err(),
-        Asked::Walk => bench.walk(memory, shown, name).err(),
+        Asked::Enter | Asked::Remove | Asked::LookUp => Some(StoreRefusal::BadName),
+        Asked::Walk => Some(StoreRefusal::BadPath),
+        Asked::Row | Asked::Name => asked.denied(Denial::WrongPort),
     }
 }
 
-/// An archive whose directory has a row of the run, under the name `run`.
-fn filled() -> Result<Archive, Fail> {
-    let Archive {
-        bench,
-        mut room,
-        run,
-        directory,
-    } = Archive::new()?;
-    let mut memory = lend!(room);
-    bench.enter(&mut memory, directory, b"run", run, OPEN)?;
-    Ok(Archive {
-        bench,
-        room,
-        run,
-        directory,
-    })
+#[test]
+fn memory_and_names_come_first(rt: HostRuntime) -> Result<(), Fail> {
+    let Taken { bench, room, given } = take(&rt, gate()?, &FILLED)?;
+    let run = given.at(RUN);
+    let port = Port { bytes: [9; 6] };
+    let shown = Capability {
+        port,
+        ..given.at(DIRECTORY)
+    };
+    for asked in ALL {
+        let cases = [
+            (17, 15, Some(StoreRefusal::WrongSizes)),
+            (17, 16, Some(StoreRefusal::UnsoundMemory)),
+            (0, 16, refused_by_name(asked)),
+        ];
+        for (count, area, wanted) in cases {
+            let came = refused_over(&bench, room, count, area, asked, shown, run);
+            assert!(rt; came == wanted, "{asked:?} {wanted:?}");
+        }
+    }
+    Ok(())
 }
 
-/// The name by which a request is granted over a filled archive.
+/// The name by which a request is granted where the directory has a row of the run.
 fn good_name(asked: Asked) -> &'static [u8] {
     match asked {
         Asked::Enter => b"new",
@@ -94,104 +80,93 @@ fn good_name(asked: Asked) -> &'static [u8] {
     }
 }
 
-/// A room whose area is a byte shorter.
-macro_rules! lend_less {
-    ($room:ident) => {
-        Memory {
-            files: &mut $room.files,
-            directories: &mut $room.directories,
-            rows: &mut $room.rows,
-            area: &mut $room.area[..15],
-        }
-    };
-}
-
-#[test]
-fn memory_and_names_come_first(rt: HostRuntime) -> Result<(), Fail> {
-    let Archive {
-        bench,
-        mut room,
-        run,
-        directory,
-    } = filled()?;
-    let port = Port { bytes: [9; 6] };
-    let shown = Capability { port, ..directory };
-    for asked in ALL {
-        room.directories[1].count = 17;
-        let mut memory = lend_less!(room);
-        let came = refused(&bench, &mut memory, asked, shown, b"/", run);
-        assert_eq!(rt; came, Some(StoreRefusal::WrongSizes), "{asked:?}");
-        let mut memory = lend!(room);
-        let came = refused(&bench, &mut memory, asked, shown, b"/", run);
-        assert_eq!(rt; came, Some(StoreRefusal::UnsoundMemory), "{asked:?}");
-        room.directories[1].count = 0;
-        let mut memory = lend!(room);
-        let came = refused(&bench, &mut memory, asked, shown, b"/", run);
-        let wanted = match asked {
-            Asked::Enter | Asked::Remove | Asked::LookUp => Some(StoreRefusal::BadName),
-            Asked::Walk => Some(StoreRefusal::BadPath),
-            Asked::Row | Asked::Name => asked.denied(Denial::WrongPort),
-        };
-        assert_eq!(rt; came, wanted, "{asked:?}");
-    }
-    Ok(())
+/// Why a request is refused with what is left of a directory's capability within a mask, if it is.
+fn refused_within(
+    bench: &Bench<Powers>,
+    mut room: Room,
+    asked: Asked,
+    directory: Capability,
+    bits: u8,
+    entry: Capability,
+) -> Result<Option<StoreRefusal>, Fail> {
+    let mut memory = lend!(room);
+    let shown = thinned(directory, bits)?;
+    let name = good_name(asked);
+    Ok(refused(bench, &mut memory, asked, shown, name, entry))
 }
 
 #[test]
 fn one_right_alone(rt: HostRuntime) -> Result<(), Fail> {
-    let Archive {
-        bench,
-        room,
-        run,
-        directory,
-    } = filled()?;
+    let Taken { bench, room, given } = take(&rt, gate()?, &FILLED)?;
+    let (run, directory) = (given.at(RUN), given.at(DIRECTORY));
     for asked in ALL {
         for bits in [1, 2, 4, 8, 16, 32, 64, 128] {
-            let mut room: Room = room;
-            let mut memory = lend!(room);
-            let shown = thinned(directory, bits)?;
-            let came = refused(&bench, &mut memory, asked, shown, good_name(asked), run);
+            let came = refused_within(&bench, room, asked, directory, bits, run)?;
             let wanted = if bits & asked.rights() == 0 {
                 asked.denied(Denial::RightMissing)
             } else {
                 None
             };
-            assert_eq!(rt; came, wanted, "{asked:?} {bits}");
+            assert!(rt; came == wanted, "{asked:?} {bits}");
         }
     }
     Ok(())
 }
 
+/// A filled directory, and a file that is gone.
+static GONE: [Step; 5] = [
+    Step::File(b"abc", 11, Ok(1)),
+    Step::Directory(13, Ok(4)),
+    Step::Enter(DIRECTORY, b"run", RUN, OPEN, Ok(())),
+    Step::File(b"d", 17, Ok(2)),
+    Step::Destroy(3, Ok(())),
+];
+
+/// A name that is unknown, or taken where it is entered.
+fn bad_name(asked: Asked) -> &'static [u8] {
+    match asked {
+        Asked::Enter => b"run",
+        _ => b"unknown",
+    }
+}
+
+/// Capabilities that are denied a request to a directory, with the denials.
+fn denied(
+    asked: Asked,
+    directory: Capability,
+    run: Capability,
+    owner: Capability,
+) -> Result<[(Capability, Denial); 8], Fail> {
+    let [port, object, check, past] = not_accepted(directory);
+    let without = thinned(directory, 255 - asked.rights())?;
+    Ok([
+        port,
+        object,
+        check,
+        past,
+        (run, Denial::WrongKind),
+        (thinned(run, 0)?, Denial::WrongKind),
+        (owner, Denial::WrongKind),
+        (without, Denial::RightMissing),
+    ])
+}
+
 #[test]
 fn faults_in_order(rt: HostRuntime) -> Result<(), Fail> {
-    let Archive {
-        mut bench,
+    let Taken {
+        bench,
         mut room,
-        run,
-        directory,
-    } = filled()?;
-    let mut memory = lend!(room);
-    let gone = bench.file(&mut memory, b"d", 17)?;
-    bench.destroy(&mut memory, gone)?;
+        given,
+    } = take(&rt, gate()?, &GONE)?;
+    let (run, directory, gone) = (given.at(RUN), given.at(DIRECTORY), given.at(3));
     let before = room;
     let mut memory = lend!(room);
-    // A name that is unknown, or taken where it is entered, and an entry that is not accepted, so that each later fault is there too.
+    // A bad name and an entry that is not accepted, so that each later fault is there too.
     for asked in ALL {
-        let name = match asked {
-            Asked::Enter => b"run".as_slice(),
-            _ => b"unknown",
-        };
-        for (shown, denial) in not_accepted(directory) {
-            let came = refused(&bench, &mut memory, asked, shown, name, gone);
-            assert_eq!(rt; came, asked.denied(denial), "{asked:?}");
+        for (shown, denial) in denied(asked, directory, run, bench.owner)? {
+            let came = refused(&bench, &mut memory, asked, shown, bad_name(asked), gone);
+            assert!(rt; came == asked.denied(denial), "{asked:?} {denial:?}");
         }
-        for shown in [run, thinned(run, 0)?, bench.owner] {
-            let came = refused(&bench, &mut memory, asked, shown, name, gone);
-            assert_eq!(rt; came, asked.denied(Denial::WrongKind), "{asked:?}");
-        }
-        let shown = thinned(directory, 255 - asked.rights())?;
-        let came = refused(&bench, &mut memory, asked, shown, name, gone);
-        assert_eq!(rt; came, asked.denied(Denial::RightMissing), "{asked:?}");
     }
     assert!(rt; room.is_same(&before));
     Ok(())

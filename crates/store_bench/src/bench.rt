@@ -266,31 +266,6 @@ pub fn thinned(capability: Capability, bits: u8) -> Result<Capability, Fail> {
     Ok(capability.thin_to(&Powers::new(MODULUS)?, Mask { bits })?)
 }
 
-/// A store of powers with a file of three bytes and a directory without rows, and the memory that it lies in.
-#[derive(Drop)]
-pub struct Archive {
-    pub bench: Bench<Powers>,
-    pub room: Room,
-    pub run: Capability,
-    pub directory: Capability,
-}
-
-impl Archive {
-    pub fn new() -> Result<Archive, Fail> {
-        let mut room = Room::new();
-        let mut memory = lend!(room);
-        let mut bench = Bench::new(gate()?, &mut memory)?;
-        let run = bench.file(&mut memory, b"abc", 11)?;
-        let directory = bench.directory(&mut memory, 13)?;
-        Ok(Archive {
-            bench,
-            room,
-            run,
-            directory,
-        })
-    }
-}
-
 /// A capability of the store of powers that is not accepted, in each way, with the denial for it.
 pub fn not_accepted(capability: Capability) -> [(Capability, Denial); 4] {
     let port = Port { bytes: [9; 6] };

@@ -5,8 +5,8 @@ mod bench;
 mod steps;
 
 pub use bench::{
-    Archive, Bench, MODULUS, OPEN, PORT, Room, are_same_rows, gate, masks, not_accepted,
-    old_directory, old_file, old_row, thinned,
+    Bench, MODULUS, OPEN, PORT, Room, are_same_rows, gate, masks, not_accepted, old_directory,
+    old_file, old_row, thinned,
 };
 pub use memory::Memory;
 pub use steps::{Bytes, Done, Found, Given, Number, Step, Taken, go_on, take, take_all};
