@@ -129,6 +129,11 @@ static RING: [Step; 3] = [
     Step::Enter(DIRECTORY, b"a", DIRECTORY, OPEN, Ok(())),
 ];
 
+/// Whether a walk is refused since its path is none.
+fn is_bad(bench: &Bench<Powers>, memory: &Memory, shown: Capability, path: &[u8]) -> bool {
+    bench.walk(memory, shown, path) == Err(StoreRefusal::BadPath)
+}
+
 #[test]
 fn words_that_are_no_paths(rt: HostRuntime) -> Result<(), Fail> {
     let Taken {
@@ -141,11 +146,7 @@ fn words_that_are_no_paths(rt: HostRuntime) -> Result<(), Fail> {
     let port = Port { bytes: [9; 6] };
     for path in NO_PATHS {
         for shown in [directory, Capability { port, ..directory }] {
-            assert_eq!(rt;
-                bench.walk(&memory, shown, path),
-                Err(StoreRefusal::BadPath),
-                "{path:?}"
-            );
+            assert!(rt; is_bad(&bench, &memory, shown, path), "{path:?}");
         }
     }
     Ok(())

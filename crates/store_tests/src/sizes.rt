@@ -121,7 +121,7 @@ static WRONG: [Sizes; 9] = [
 fn sizes_past_the_limits(rt: HostRuntime) -> Result<(), Fail> {
     for sizes in WRONG {
         let wanted = (Some(StoreRefusal::WrongSizes), true);
-        assert_eq!(rt; refused(rt.alloc(), sizes)?, wanted);
+        assert!(rt; refused(rt.alloc(), sizes)? == wanted);
     }
     Ok(())
 }
@@ -198,27 +198,27 @@ fn sizes_other_than_at_the_opening(rt: HostRuntime) -> Result<(), Fail> {
     assert_eq!(rt; size_within(&bench, room, run, BEGUN), Some(Ok(3)));
     let wanted = Some(Err(StoreRefusal::WrongSizes));
     for sizes in OTHERS {
-        assert_eq!(rt; size_within(&bench, room, run, sizes), wanted);
+        assert!(rt; size_within(&bench, room, run, sizes) == wanted);
     }
     Ok(())
 }
 
 static FILED: [Step; 1] = [Step::File(b"abc", 11, Ok(1))];
 
-/// Why a revoke is refused, if it is, and whether all of its scratch is this number then.
-fn revoked(
+/// Whether a revoke is refused so, and all of its scratch is this number then.
+fn leaves(
     bench: &mut Bench<Powers>,
     memory: &mut Memory,
-    run: Capability,
-    secret: u64,
+    (run, secret, wanted): (Capability, u64, StoreRefusal),
     scratch: &mut [u64],
     left: u64,
-) -> (Option<StoreRefusal>, bool) {
+) -> bool {
     let secret = Secret::new(secret);
     let refusal = bench.store.revoke(memory, run, secret, scratch).err();
-    (refusal, scratch.iter().all(|number| *number == left))
+    refusal == Some(wanted) && scratch.iter().all(|number| *number == left)
 }
 
+/// Wiped though the secret is refused, and though the check is.
 #[test]
 fn scratches_are_wiped(rt: HostRuntime) -> Result<(), Fail> {
     let Taken {
@@ -232,16 +232,18 @@ fn scratches_are_wiped(rt: HostRuntime) -> Result<(), Fail> {
         rights: Rights { bits: 1 },
         ..run
     };
-    // Wiped though the secret is refused, and though the check is.
-    let cases = [
-        (run, 11, StoreRefusal::UnfitSecret),
-        (unknown, 13, StoreRefusal::Denied(Denial::WrongCheck, 0)),
-    ];
-    for (shown, secret, refusal) in cases {
-        let mut scratch = [9; SETS];
-        let came = revoked(&mut bench, &mut memory, shown, secret, &mut scratch, 0);
-        assert_eq!(rt; came, (Some(refusal), true));
-    }
+    let secret = (run, 11, StoreRefusal::UnfitSecret);
+    let mut scratch = [9; SETS];
+    assert!(rt;
+        leaves(&mut bench, &mut memory, secret, &mut scratch, 0),
+        "the secret"
+    );
+    let check = (unknown, 13, StoreRefusal::Denied(Denial::WrongCheck, 0));
+    scratch = [9; SETS];
+    assert!(rt;
+        leaves(&mut bench, &mut memory, check, &mut scratch, 0),
+        "the check"
+    );
     Ok(())
 }
 
@@ -254,7 +256,7 @@ fn a_scratch_of_another_size_is_not_wiped(rt: HostRuntime) -> Result<(), Fail> {
     } = take(&rt, gate()?, &FILED)?;
     let mut memory = lend!(room);
     let mut short = [9; 255];
-    let came = revoked(&mut bench, &mut memory, given.at(1), 13, &mut short, 9);
-    assert_eq!(rt; came, (Some(StoreRefusal::WrongSizes), true));
+    let size = (given.at(1), 13, StoreRefusal::WrongSizes);
+    assert!(rt; leaves(&mut bench, &mut memory, size, &mut short, 9));
     Ok(())
 }
