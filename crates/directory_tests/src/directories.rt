@@ -41,8 +41,8 @@ static ORDER: [Step; 17] = [
 ];
 
 #[test]
-fn rows_keep_their_order(rt: HostRuntime) -> Result<(), Fail> {
-    take_all(&rt, &ORDER)
+fn rows_keep_their_order() -> Result<(), Fail> {
+    take_all(&ORDER)
 }
 
 /// Lawful names: of 24 bytes, of the first and the last byte that a name has, and of dots.
@@ -61,8 +61,8 @@ static AT_EDGES: [Step; 9] = [
 ];
 
 #[test]
-fn names_at_their_edges(rt: HostRuntime) -> Result<(), Fail> {
-    take_all(&rt, &AT_EDGES)
+fn names_at_their_edges() -> Result<(), Fail> {
+    take_all(&AT_EDGES)
 }
 
 /// Words that are no names: without a byte, with one too many, and with bytes that no name has.
@@ -86,7 +86,7 @@ fn words_that_are_no_names(rt: HostRuntime) -> Result<(), Fail> {
         bench,
         mut room,
         given,
-    } = take(&rt, gate()?, &EMPTY)?;
+    } = take(gate()?, &EMPTY)?;
     let mut memory = lend!(room);
     let (run, directory) = (given.at(RUN), given.at(DIRECTORY));
     let port = Port { bytes: [9; 6] };
@@ -115,8 +115,8 @@ static PAST_THE_END: [Step; 10] = [
 ];
 
 #[test]
-fn rows_past_the_end(rt: HostRuntime) -> Result<(), Fail> {
-    take_all(&rt, &PAST_THE_END)
+fn rows_past_the_end() -> Result<(), Fail> {
+    take_all(&PAST_THE_END)
 }
 
 static NAMED: [Step; 14] = [
@@ -138,8 +138,8 @@ static NAMED: [Step; 14] = [
 ];
 
 #[test]
-fn the_last_name_of_an_object(rt: HostRuntime) -> Result<(), Fail> {
-    take_all(&rt, &NAMED)
+fn the_last_name_of_an_object() -> Result<(), Fail> {
+    take_all(&NAMED)
 }
 
 /// The names of as many rows as a directory has room for.
@@ -170,11 +170,11 @@ static ONE_LESS: [Step; 2] = [
 
 #[test]
 fn sixteen_rows_and_no_more(rt: HostRuntime) -> Result<(), Fail> {
-    let filled = take(&rt, gate()?, &FILLED)?;
+    let filled = take(gate()?, &FILLED)?;
     let before = filled.room;
-    let refused = go_on(&rt, filled, &ONE_MORE);
+    let refused = go_on(filled, &ONE_MORE)?;
     assert!(rt; refused.room.is_same(&before));
-    go_on(&rt, refused, &ONE_LESS);
+    go_on(refused, &ONE_LESS)?;
     Ok(())
 }
 
@@ -196,7 +196,7 @@ fn capabilities_that_are_not_entered(rt: HostRuntime) -> Result<(), Fail> {
         bench,
         mut room,
         given,
-    } = take(&rt, gate()?, &NOT_ENTERED)?;
+    } = take(gate()?, &NOT_ENTERED)?;
     let mut memory = lend!(room);
     let (directory, other) = (given.at(DIRECTORY), given.at(3));
     let [port, object, check, past] = not_accepted(given.at(RUN));
@@ -255,7 +255,7 @@ fn what_is_entered_is_kept_as_it_is(rt: HostRuntime) -> Result<(), Fail> {
         bench,
         mut room,
         given,
-    } = take(&rt, gate()?, &PARTS)?;
+    } = take(gate()?, &PARTS)?;
     let mut memory = lend!(room);
     let (directory, owner) = (given.at(DIRECTORY), bench.owner);
     let (own, store) = ((directory, masks(0, 0, 0)), (owner, masks(255, 0, 1)));
@@ -284,23 +284,23 @@ static ENTERED_INTO_THE_OTHER: [Step; 1] = [Step::Enter(3, b"e", RUN, OPEN, Ok((
 
 #[test]
 fn all_else_stays_as_it_was(rt: HostRuntime) -> Result<(), Fail> {
-    let mut before = take(&rt, gate()?, &TWO_DIRECTORIES)?;
+    let mut before = take(gate()?, &TWO_DIRECTORIES)?;
     let (run, other) = (before.given.at(RUN), before.given.at(3));
     // Rows behind the counted ones may hold anything.
     before.room.rows[4] = old_row();
     before.room.rows[17] = old_row();
     let mut wanted = before.room;
-    let entered = go_on(&rt, before, &ENTERED);
+    let entered = go_on(before, &ENTERED)?;
     wanted.rows[2] = written(b"d", other, OPEN);
     wanted.directories[0].count = 3;
     assert!(rt; entered.room.is_same(&wanted), "entered");
-    let removed = go_on(&rt, entered, &REMOVED);
+    let removed = go_on(entered, &REMOVED)?;
     wanted.rows[0] = written(b"b", run, OPEN);
     wanted.rows[1] = written(b"d", other, OPEN);
     wanted.rows[2] = zero_row();
     wanted.directories[0].count = 2;
     assert!(rt; removed.room.is_same(&wanted), "removed");
-    let last = go_on(&rt, removed, &ENTERED_INTO_THE_OTHER);
+    let last = go_on(removed, &ENTERED_INTO_THE_OTHER)?;
     wanted.rows[17] = written(b"e", run, OPEN);
     wanted.directories[1].count = 2;
     assert!(rt;
@@ -361,7 +361,7 @@ fn each_request_is_served(rt: HostRuntime) -> Result<(), Fail> {
         mut bench,
         mut room,
         given,
-    } = take(&rt, gate()?, &SERVED)?;
+    } = take(gate()?, &SERVED)?;
     let mut memory = lend!(room);
     let (run, second) = (given.at(RUN), given.at(3));
     let requests = [

@@ -58,7 +58,7 @@ fn each_set_of_rights_sees_its_columns(rt: HostRuntime) -> Result<(), Fail> {
         bench,
         mut room,
         given,
-    } = take(&rt, gate()?, &steps)?;
+    } = take(gate()?, &steps)?;
     let memory = lend!(room);
     let (run, part, directory) = (given.at(RUN), given.at(3), given.at(DIRECTORY));
     for (bits, seen) in SEEN {
@@ -74,7 +74,7 @@ fn each_set_of_rights_sees_its_columns(rt: HostRuntime) -> Result<(), Fail> {
 }
 
 #[test]
-fn a_row_that_shows_no_right(rt: HostRuntime) -> Result<(), Fail> {
+fn a_row_that_shows_no_right() -> Result<(), Fail> {
     let steps = [
         Step::File(b"abc", 11, Ok(1)),
         Step::Directory(13, Ok(4)),
@@ -86,7 +86,7 @@ fn a_row_that_shows_no_right(rt: HostRuntime) -> Result<(), Fail> {
         // It is accepted, though good for nothing.
         Step::Read(4, Err(StoreRefusal::Denied(Denial::RightMissing, 0))),
     ];
-    take_all(&rt, &steps)
+    take_all(&steps)
 }
 
 /// Paths of sixteen names, of seventeen, and with a name of 24 bytes.
@@ -105,8 +105,8 @@ static LONG_PATHS: [Step; 7] = [
 ];
 
 #[test]
-fn sixteen_names_are_walked(rt: HostRuntime) -> Result<(), Fail> {
-    take_all(&rt, &LONG_PATHS)
+fn sixteen_names_are_walked() -> Result<(), Fail> {
+    take_all(&LONG_PATHS)
 }
 
 /// Words that are no paths: without a name, with an empty one, and with one that is not lawful.
@@ -140,7 +140,7 @@ fn words_that_are_no_paths(rt: HostRuntime) -> Result<(), Fail> {
         bench,
         mut room,
         given,
-    } = take(&rt, gate()?, &RING)?;
+    } = take(gate()?, &RING)?;
     let memory = lend!(room);
     let directory = given.at(DIRECTORY);
     let port = Port { bytes: [9; 6] };
@@ -197,12 +197,12 @@ static FAULTS: [Step; 21] = [
 ];
 
 #[test]
-fn faults_on_the_way(rt: HostRuntime) -> Result<(), Fail> {
-    take_all(&rt, &FAULTS)
+fn faults_on_the_way() -> Result<(), Fail> {
+    take_all(&FAULTS)
 }
 
 #[test]
-fn a_walk_sees_less_with_each_name(rt: HostRuntime) -> Result<(), Fail> {
+fn a_walk_sees_less_with_each_name() -> Result<(), Fail> {
     let steps = [
         Step::File(b"abc", 11, Ok(1)),
         Step::Directory(13, Ok(4)),
@@ -222,7 +222,7 @@ fn a_walk_sees_less_with_each_name(rt: HostRuntime) -> Result<(), Fail> {
         Step::Thin(RUN, 3, Ok(1)),
         Step::Walk(10, b"shelf/run", Ok(11)),
     ];
-    take_all(&rt, &steps)
+    take_all(&steps)
 }
 
 /// Rows of a run that was withdrawn, of one whose number another has now, of one whose number none has, and of the directory before it had another secret.
@@ -261,9 +261,9 @@ static TOLD_BUT_NOT_FOUND: [Step; 12] = [
 ];
 
 #[test]
-fn stale_rows_are_told_but_not_found(rt: HostRuntime) -> Result<(), Fail> {
-    let stale = take(&rt, gate()?, &STALE)?;
-    go_on(&rt, stale, &TOLD_BUT_NOT_FOUND);
+fn stale_rows_are_told_but_not_found() -> Result<(), Fail> {
+    let stale = take(gate()?, &STALE)?;
+    go_on(stale, &TOLD_BUT_NOT_FOUND)?;
     Ok(())
 }
 
@@ -280,8 +280,8 @@ static LEFT: [Step; 9] = [
 ];
 
 #[test]
-fn stale_rows_are_rows_that_are_left(rt: HostRuntime) -> Result<(), Fail> {
-    let stale = take(&rt, gate()?, &STALE)?;
-    go_on(&rt, stale, &LEFT);
+fn stale_rows_are_rows_that_are_left() -> Result<(), Fail> {
+    let stale = take(gate()?, &STALE)?;
+    go_on(stale, &LEFT)?;
     Ok(())
 }

@@ -51,7 +51,7 @@ fn refused_by_name(asked: Asked) -> Option<StoreRefusal> {
 
 #[test]
 fn memory_and_names_come_first(rt: HostRuntime) -> Result<(), Fail> {
-    let Taken { bench, room, given } = take(&rt, gate()?, &FILLED)?;
+    let Taken { bench, room, given } = take(gate()?, &FILLED)?;
     let run = given.at(RUN);
     let port = Port { bytes: [9; 6] };
     let shown = Capability {
@@ -97,7 +97,7 @@ fn refused_within(
 
 #[test]
 fn one_right_alone(rt: HostRuntime) -> Result<(), Fail> {
-    let Taken { bench, room, given } = take(&rt, gate()?, &FILLED)?;
+    let Taken { bench, room, given } = take(gate()?, &FILLED)?;
     let (run, directory) = (given.at(RUN), given.at(DIRECTORY));
     for asked in ALL {
         for bits in [1, 2, 4, 8, 16, 32, 64, 128] {
@@ -157,7 +157,7 @@ fn faults_in_order(rt: HostRuntime) -> Result<(), Fail> {
         bench,
         mut room,
         given,
-    } = take(&rt, gate()?, &GONE)?;
+    } = take(gate()?, &GONE)?;
     let (run, directory, gone) = (given.at(RUN), given.at(DIRECTORY), given.at(3));
     let before = room;
     let mut memory = lend!(room);

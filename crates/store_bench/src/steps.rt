@@ -5,7 +5,6 @@ use family::CommutingFamily;
 use holder::{Capability, Check, Mask, Object};
 use memory::{Masks, Memory, Row, zero_row};
 use runs::Gate;
-use std::process::Abort;
 use std::test::Fail;
 use store::StoreRefusal;
 
@@ -263,20 +262,12 @@ fn opened<F: CommutingFamily + Drop>(gate: Gate<F>) -> Result<Taken<F>, Fail> {
 }
 
 /// Takes the steps one after the other over a store just opened.
-pub fn take<F: CommutingFamily + Drop>(
-    rt: &impl Abort,
-    gate: Gate<F>,
-    steps: &[Step],
-) -> Result<Taken<F>, Fail> {
-    Ok(go_on(rt, opened(gate)?, steps))
+pub fn take<F: CommutingFamily + Drop>(gate: Gate<F>, steps: &[Step]) -> Result<Taken<F>, Fail> {
+    go_on(opened(gate)?, steps)
 }
 
-/// Takes the steps one after the other after those already taken.
-pub fn go_on<F: CommutingFamily + Drop>(
-    rt: &impl Abort,
-    taken: Taken<F>,
-    steps: &[Step],
-) -> Taken<F> {
+/// Takes the steps one after the other after those already taken; the first of which something else came is told by its place.
+pub fn go_on<F: CommutingFamily + Drop>(taken: Taken<F>, steps: &[Step]) -> Result<Taken<F>, Fail> {
     let Taken {
         mut bench,
         mut room,
@@ -284,16 +275,15 @@ pub fn go_on<F: CommutingFamily + Drop>(
     } = taken;
     let mut memory = lend!(room);
     for (i, step) in steps.iter().enumerate() {
-        assert!(rt;
-            is_met(&mut bench, &mut memory, &mut given, *step),
-            "step {i}"
-        );
+        if !is_met(&mut bench, &mut memory, &mut given, *step) {
+            return Err(Fail::new(format_args!("step {i}")));
+        }
     }
-    Taken { bench, room, given }
+    Ok(Taken { bench, room, given })
 }
 
 /// Takes the steps one after the other over a store of powers just opened.
-pub fn take_all(rt: &impl Abort, steps: &[Step]) -> Result<(), Fail> {
-    take(rt, gate()?, steps)?;
+pub fn take_all(steps: &[Step]) -> Result<(), Fail> {
+    take(gate()?, steps)?;
     Ok(())
 }

@@ -106,13 +106,13 @@ static SHARED: [Step; 9] = [
 ];
 
 #[test]
-fn two_secrets_share_what_they_are_thinned_to(rt: HostRuntime) -> Result<(), Fail> {
-    take(&rt, clearing_gate(), &SHARED)?;
+fn two_secrets_share_what_they_are_thinned_to() -> Result<(), Fail> {
+    take(clearing_gate(), &SHARED)?;
     Ok(())
 }
 
 #[test]
-fn the_whole_capability_of_a_row_is_judged(rt: HostRuntime) -> Result<(), Fail> {
+fn the_whole_capability_of_a_row_is_judged() -> Result<(), Fail> {
     let steps = [
         Step::File(b"abc", 255, Ok(1)),
         Step::Directory(255, Ok(4)),
@@ -126,6 +126,6 @@ fn the_whole_capability_of_a_row_is_judged(rt: HostRuntime) -> Result<(), Fail> 
         Step::LookUp(2, b"run", Err(StoreRefusal::RowNotAccepted(0))),
         Step::Walk(2, b"run", Err(StoreRefusal::RowNotAccepted(1))),
     ];
-    take(&rt, clearing_gate(), &steps)?;
+    take(clearing_gate(), &steps)?;
     Ok(())
 }

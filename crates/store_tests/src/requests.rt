@@ -19,8 +19,8 @@ static FILED: [Step; 6] = [
 ];
 
 #[test]
-fn a_run_is_filed_read_and_withdrawn(rt: HostRuntime) -> Result<(), Fail> {
-    take_all(&rt, &FILED)
+fn a_run_is_filed_read_and_withdrawn() -> Result<(), Fail> {
+    take_all(&FILED)
 }
 
 static GONE: [Step; 10] = [
@@ -38,8 +38,8 @@ static GONE: [Step; 10] = [
 ];
 
 #[test]
-fn objects_that_are_gone(rt: HostRuntime) -> Result<(), Fail> {
-    take_all(&rt, &GONE)
+fn objects_that_are_gone() -> Result<(), Fail> {
+    take_all(&GONE)
 }
 
 static GOING_ROUND: [Step; 11] = [
@@ -61,8 +61,8 @@ static GOING_ROUND: [Step; 11] = [
 ];
 
 #[test]
-fn places_are_claimed_going_round(rt: HostRuntime) -> Result<(), Fail> {
-    take_all(&rt, &GOING_ROUND)
+fn places_are_claimed_going_round() -> Result<(), Fail> {
+    take_all(&GOING_ROUND)
 }
 
 static HOLES: [Step; 10] = [
@@ -80,8 +80,8 @@ static HOLES: [Step; 10] = [
 ];
 
 #[test]
-fn the_lowest_hole_is_taken(rt: HostRuntime) -> Result<(), Fail> {
-    take_all(&rt, &HOLES)
+fn the_lowest_hole_is_taken() -> Result<(), Fail> {
+    take_all(&HOLES)
 }
 
 static SECRETS: [Step; 4] = [
@@ -95,6 +95,6 @@ static SECRETS: [Step; 4] = [
 ];
 
 #[test]
-fn secrets_and_checks(rt: HostRuntime) -> Result<(), Fail> {
-    take_all(&rt, &SECRETS)
+fn secrets_and_checks() -> Result<(), Fail> {
+    take_all(&SECRETS)
 }

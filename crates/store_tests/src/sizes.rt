@@ -225,7 +225,7 @@ fn scratches_are_wiped(rt: HostRuntime) -> Result<(), Fail> {
         mut bench,
         mut room,
         given,
-    } = take(&rt, gate()?, &FILED)?;
+    } = take(gate()?, &FILED)?;
     let mut memory = lend!(room);
     let run = given.at(1);
     let unknown = Capability {
@@ -253,7 +253,7 @@ fn a_scratch_of_another_size_is_not_wiped(rt: HostRuntime) -> Result<(), Fail> {
         mut bench,
         mut room,
         given,
-    } = take(&rt, gate()?, &FILED)?;
+    } = take(gate()?, &FILED)?;
     let mut memory = lend!(room);
     let mut short = [9; 255];
     let size = (given.at(1), 13, StoreRefusal::WrongSizes);

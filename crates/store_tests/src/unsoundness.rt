@@ -3,7 +3,6 @@ use family::Powers;
 use holder::{Capability, Check, Port};
 use memory::{DirectoryRecord, FileRecord, Row};
 use secret::Secret;
-use std::process::Abort;
 use std::test::Fail;
 use store::StoreRefusal;
 use store_bench::{MODULUS, Step, Taken, gate, go_on, old_row, take};
@@ -127,8 +126,8 @@ static STORED: [Step; 3] = [
 ];
 
 /// A store with two files of one byte and a directory of two rows.
-fn prepare(rt: &impl Abort) -> Result<Taken<Powers>, Fail> {
-    let mut taken = take(rt, gate()?, &STORED)?;
+fn prepare() -> Result<Taken<Powers>, Fail> {
+    let mut taken = take(gate()?, &STORED)?;
     taken.room.rows[0] = row(b'a', taken.given.at(1));
     taken.room.rows[1] = row(b'b', taken.given.at(2));
     taken.room.directories[0].count = 2;
@@ -138,8 +137,8 @@ fn prepare(rt: &impl Abort) -> Result<Taken<Powers>, Fail> {
 static WHOLE: [Step; 1] = [Step::Size(1, Ok(1))];
 
 #[test]
-fn the_memory_without_a_flaw(rt: HostRuntime) -> Result<(), Fail> {
-    go_on(&rt, prepare(&rt)?, &WHOLE);
+fn the_memory_without_a_flaw() -> Result<(), Fail> {
+    go_on(prepare()?, &WHOLE)?;
     Ok(())
 }
 
@@ -148,13 +147,13 @@ static REFUSED: [Step; 1] = [Step::Destroy(1, Err(StoreRefusal::UnsoundMemory))]
 #[test]
 fn each_flaw_is_refused_and_left_alone(rt: HostRuntime) -> Result<(), Fail> {
     for flaw in FLAWS {
-        let mut taken = prepare(&rt)?;
+        let mut taken = prepare()?;
         let room = &mut taken.room;
         room.files[0] = spoilt_file(flaw, room.files[0]);
         room.directories[0] = spoilt_directory(flaw, room.directories[0]);
         room.rows[1] = spoilt_row(flaw, room.rows[1])?;
         let before = taken.room;
-        let after = go_on(&rt, taken, &REFUSED);
+        let after = go_on(taken, &REFUSED)?;
         assert!(rt; after.room.is_same(&before), "{flaw:?}");
     }
     Ok(())
