@@ -1,4 +1,4 @@
--- The memory that a script's store works in.
+-- The memory that a program's store works in.
 use Rattle.std.specs.Prelude.{◌≡◌, length}
 use Rattle.memory.specs.Soundness.{Content}
 use Rattle.memory.specs.Wiped.{wiped}

@@ -1,4 +1,4 @@
-//! The memory that a script's store works in.
+//! The memory that a program's store works in.
 ghost use Rattle.console.specs.Rooms.{AllZero, FullSized, held_in};
 ghost use Rattle.std.specs.Prelude.{IfOk};
 
@@ -12,13 +12,13 @@ const DIRECTORIES: usize = 16;
 
 const AREA: usize = 16_384;
 
-/// 64 file records, 16 directory records with their rows, and an area of 16,384 bytes.
+/// 64 file records, 16 directory records with their rows, and an area of 16,384 bytes. Its parts are public, to be lent to a store.
 #[derive(Drop)]
 pub struct Room {
-    pub(crate) files: Vec<FileRecord>,
-    pub(crate) directories: Vec<DirectoryRecord>,
-    pub(crate) rows: Vec<Row>,
-    pub(crate) area: Vec<u8>,
+    pub files: Vec<FileRecord>,
+    pub directories: Vec<DirectoryRecord>,
+    pub rows: Vec<Row>,
+    pub area: Vec<u8>,
 }
 
 impl Room {
