@@ -1,8 +1,8 @@
--- Numbers that are not fit.
-use Rattle.std.proofs.Common.{◌≡◌, ℕ, ◌<◌, ◌≤◌, false, refl}
+-- The next number that can follow the last one.
+use Rattle.std.proofs.Common.{◌≡◌, ℕ, ◌≤◌, false, refl}
 use Rattle.std.proofs.lemmas.Bool.{le-ltb}
-use Rattle.secret.specs.Fitness.{is_fit}
+use Rattle.file_lines.specs.Secrets.{can_follow}
 
--- no number from the modulus on is fit
-pub unfit_from : (n : ℕ) (f : ℕ → ℕ → ℕ) (s : ℕ) → n ≤ s → is_fit n f s ≡ false
-unfit_from n f s above = rw (le-ltb s n above) refl
+-- no number up to the last one can follow it
+pub none_follows_below : (n : ℕ) (f : ℕ → ℕ → ℕ) (last s : ℕ) → s ≤ last → can_follow n f last s ≡ false
+none_follows_below n f last s below = rw (le-ltb last s below) refl

@@ -1,1 +1,2 @@
 pub mod FitFacts
+pub mod WorksFacts

@@ -1,2 +1,3 @@
 pub mod Printing
 pub mod Secrets
+pub mod Works

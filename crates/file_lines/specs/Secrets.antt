@@ -1,8 +1,21 @@
--- The secret for the next object.
-use Rattle.std.specs.Prelude.{◌≡◌, ℕ, ◌<◌, ◌≤◌, false, true, None, Some, Option}
+-- The numbers that become secrets, one after the other.
+use Rattle.std.specs.Prelude.{ℕ, ◌-◌, ◌^◌, Bool, ◌&&◌, None, Some, Option, nat_lt}
 use Rattle.secret.specs.Fitness.{is_fit}
+use Rattle.table.specs.Lowest.{lowest}
 
--- the least fit number above the last one, or none where no number above it is fit
-abbrev pub IsNext : ℕ → (ℕ → ℕ → ℕ) → ℕ → Option ℕ → Type 0
-IsNext n f last None = (s : ℕ) → last < s → is_fit n f s ≡ false
-IsNext n f last (Some next) = (last < next) × (is_fit n f next ≡ true) × ((s : ℕ) → last < s → s < next → is_fit n f s ≡ false)
+-- a number that can follow the last one: it is greater, and fit
+abbrev pub can_follow : ℕ → (ℕ → ℕ → ℕ) → ℕ → ℕ → Bool
+can_follow n f last s = nat_lt last s && is_fit n f s
+
+-- the lowest number that can follow; none at or above the modulus can
+abbrev pub next_fit : ℕ → (ℕ → ℕ → ℕ) → ℕ → Option ℕ
+next_fit n f last = lowest (can_follow n f last) n
+
+-- where no number can follow, the greatest of 64 bits, which no store takes
+abbrev pub or_greatest : Option ℕ → ℕ
+or_greatest (Some s) = s
+or_greatest None = 2 ^ 64 - 1
+
+-- the next number
+abbrev pub next_number : ℕ → (ℕ → ℕ → ℕ) → ℕ → ℕ
+next_number n f last = or_greatest (next_fit n f last)

@@ -2,6 +2,7 @@
 use crate::printing::{Outcome, Step, print_step};
 use crate::works::Works;
 use anyhow::Context;
+use family::Powers;
 use holder::Capability;
 use memory::Memory;
 use refusal::Refusal;
@@ -17,16 +18,16 @@ struct Run {
 }
 
 /// What a step came to that gives a capability, or is refused.
-fn given(came: Result<Capability, Refusal>) -> Outcome<'static> {
+fn given<E: Into<Refusal>>(came: Result<Capability, E>) -> Outcome<'static> {
     match came {
         Ok(capability) => Outcome::Given(capability),
-        Err(refusal) => Outcome::Refused(refusal),
+        Err(refusal) => Outcome::Refused(refusal.into()),
     }
 }
 
 /// Files a line as a run, and restricts its capability; none where that is refused.
 fn file_line<W: Write>(
-    works: &mut Works,
+    works: &mut Works<Powers>,
     memory: &mut Memory,
     line: u64,
     bytes: &[u8],
@@ -51,7 +52,7 @@ fn file_line<W: Write>(
 /// Files each line of the input; gives the runs that were not refused.
 fn file_lines<R: Read + Drop, W: Write>(
     alloc: Global,
-    works: &mut Works,
+    works: &mut Works<Powers>,
     memory: &mut Memory,
     input: &mut BufReader<R>,
     output: &mut W,
@@ -78,17 +79,22 @@ fn file_lines<R: Read + Drop, W: Write>(
 }
 
 /// Reads a run with the capability that was handed out for it.
-fn read_back<W: Write>(works: &Works, memory: &Memory, run: Run, output: &mut W) -> io::Result<()> {
+fn read_back<W: Write>(
+    works: &Works<Powers>,
+    memory: &Memory,
+    run: Run,
+    output: &mut W,
+) -> io::Result<()> {
     let read = match works.read(memory, run.reader) {
         Ok(bytes) => Outcome::Bytes(bytes),
-        Err(refusal) => Outcome::Refused(refusal),
+        Err(refusal) => Outcome::Refused(refusal.into()),
     };
     print_step(output, Step::Read(run.line), read)
 }
 
 /// Withdraws a run, and tries to read it as before.
 fn withdraw<W: Write>(
-    works: &mut Works,
+    works: &mut Works<Powers>,
     memory: &mut Memory,
     run: Run,
     output: &mut W,
@@ -101,7 +107,7 @@ fn withdraw<W: Write>(
 /// Files each line of the input as a run, reads the runs back, and withdraws the first.
 pub(crate) fn file_all<R: Read + Drop, W: Write>(
     alloc: Global,
-    works: &mut Works,
+    works: &mut Works<Powers>,
     memory: &mut Memory,
     input: &mut BufReader<R>,
     output: &mut W,

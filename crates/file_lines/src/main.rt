@@ -10,7 +10,9 @@ use crate::filing::file_all;
 use crate::printing::{Outcome, Step, print_step};
 use crate::works::Works;
 use console::Room;
+use family::Powers;
 use memory::Memory;
+use refusal::Refusal;
 use std::env;
 use std::io::{self, BufReader, BufWriter, Write};
 use std::process::ExitCode;
@@ -34,7 +36,12 @@ The exit status is 0 when the store was opened, whatever was refused in it, and 
 when lines could not be read or steps not be printed.
 ";
 
-/// Opens a store of powers over memory of this program's own, and files the lines of standard input there.
+/// Opens a store of powers.
+fn open(modulus: u64, secret: u64, memory: &mut Memory) -> Result<Works<Powers>, Refusal> {
+    Ok(Works::open(Powers::new(modulus)?, secret, memory)?)
+}
+
+/// Opens a store over memory of this program's own, and files the lines of standard input there.
 fn run(rt: &HostRuntime, modulus: u64, secret: u64) -> anyhow::Result<ExitCode> {
     let mut room = Room::new(rt.alloc())?;
     let mut memory = Memory {
@@ -44,7 +51,7 @@ fn run(rt: &HostRuntime, modulus: u64, secret: u64) -> anyhow::Result<ExitCode> 
         area: &mut room.area,
     };
     let mut output = BufWriter::new(rt.alloc(), io::writer(rt))?;
-    let opened = match Works::open(modulus, secret, &mut memory) {
+    let opened = match open(modulus, secret, &mut memory) {
         Ok(mut works) => {
             let mut input = BufReader::new(rt.alloc(), rt.reader())?;
             file_all(rt.alloc(), &mut works, &mut memory, &mut input, &mut output)?;

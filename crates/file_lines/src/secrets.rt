@@ -1,13 +1,15 @@
 //! Secrets for one object after the other.
-ghost use Rattle.file_lines.specs.Secrets.{IsNext};
+ghost use Rattle.file_lines.specs.Secrets.{can_follow, next_number};
+ghost use Rattle.std.specs.Prelude.{◌≡◌};
+ghost use Rattle.table.specs.Lowest.{IsLowest};
 
 use family::CommutingFamily;
 use secret::{SETS, Secret, is_fit};
 
 /// The least number above the last one that is fit to be a secret; none where no such number is fit.
-#[tactic(auto, using(crate::proofs::FitFacts::unfit_from))]
-pub(crate) fn next_fit<F: CommutingFamily>(family: &F, last: u64) -> Option<u64>
-    ensures { IsNext (F.modulus_of family.now) (F.function_of family.now) last result }
+#[tactic(auto, using(crate::proofs::FitFacts::none_follows_below))]
+fn next_fit<F: CommutingFamily>(family: &F, last: u64) -> Option<u64>
+    ensures { IsLowest (can_follow (F.modulus_of family.now) (F.function_of family.now) last) (F.modulus_of family.now) result }
 {
     let mut scratch = [0; SETS];
     for number in last.saturating_add(1)..family.modulus() {
@@ -16,4 +18,12 @@ pub(crate) fn next_fit<F: CommutingFamily>(family: &F, last: u64) -> Option<u64>
         }
     }
     None
+}
+
+/// The number of the next secret; where none is left that is fit, one that no store takes.
+#[tactic(auto, using(table::proofs::LowestFacts::lowest_unique))]
+pub(crate) fn next_number<F: CommutingFamily>(family: &F, last: u64) -> u64
+    ensures { result ≡ next_number (F.modulus_of family.now) (F.function_of family.now) last }
+{
+    next_fit(family, last).unwrap_or(u64::MAX)
 }

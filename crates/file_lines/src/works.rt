@@ -1,12 +1,20 @@
 //! The works with a store: a run filed, and one withdrawn.
-use crate::secrets::next_fit;
-use family::Powers;
-use holder::{Capability, Mask, Port};
+ghost use Rattle.file_lines.specs.Works.{bytes_told, filed, next, opened_with, restricted, state_of, turn, withdrawn, works_as};
+ghost use Rattle.memory.specs.Held.{content};
+ghost use Rattle.memory.specs.Loans.{SameLoan};
+ghost use Rattle.memory.specs.Soundness.{Content};
+ghost use Rattle.std.specs.Prelude.{◌≡◌, IfOk};
+ghost use Rattle.store.specs.Changes.{told_as};
+ghost use Rattle.store.specs.Reading.{shown};
+ghost use Rattle.store.specs.Requests.{granted, the_bytes};
+
+use crate::secrets::next_number;
+use family::CommutingFamily;
+use holder::{Capability, HolderRefusal, Mask, Port};
 use memory::Memory;
-use refusal::Refusal;
 use runs::{Gate, open};
 use secret::{SETS, Secret};
-use store::{Opened, Store};
+use store::{Opened, Store, StoreRefusal};
 
 /// The port that the store is known by.
 const PORT: Port = Port { bytes: *b"PUMP01" };
@@ -14,19 +22,27 @@ const PORT: Port = Port { bytes: *b"PUMP01" };
 /// The right to read, and no other.
 const READING: Mask = Mask { bits: 1 };
 
-/// A store with its owner capability, and the number that was the last one to become a secret.
+/// A store with its owner capability, and the last number that became a secret.
 #[derive(Drop)]
-pub(crate) struct Works {
-    store: Store<Powers>,
+pub(crate) struct Works<F> {
+    store: Store<F>,
     owner: Capability,
     last: u64,
 }
 
-impl Works {
-    /// Opens a store of powers over this memory, by the call that carries the law of runs.
-    pub(crate) fn open(modulus: u64, secret: u64, memory: &mut Memory) -> Result<Works, Refusal> {
+impl<F: CommutingFamily + Drop> Works<F> {
+    /// Opens a store over this memory, by the call that carries the law of runs.
+    pub(crate) fn open(
+        family: F,
+        secret: u64,
+        memory: &mut Memory,
+    ) -> Result<Works<F>, StoreRefusal>
+        ensures outcome { works_as F.modulus_of F.function_of (content memory.new) result ≡ opened_with (F.modulus_of family) (F.function_of family) secret (content memory.old) }
+        ensures last { IfOk result (λ works. works.last ≡ secret) }
+        ensures loan { SameLoan memory.old memory.new }
+    {
         let gate = Gate {
-            family: Powers::new(modulus)?,
+            family,
             port: PORT,
             secret: Secret::new(secret),
         };
@@ -39,14 +55,17 @@ impl Works {
     }
 
     /// The capability of the store itself.
-    pub(crate) fn owner(&self) -> Capability {
+    pub(crate) fn owner(&self) -> Capability
+        ensures { result ≡ self.now.owner }
+    {
         self.owner
     }
 
-    /// A secret for the next object; where no number is left that is fit, one that the store refuses.
-    fn next_secret(&mut self) -> Secret {
-        self.last = next_fit(self.store.family(), self.last).unwrap_or(u64::MAX);
-        Secret::new(self.last)
+    /// The number of the next secret.
+    fn next(&self) -> u64
+        ensures { (m : Content) → result ≡ next (state_of F.modulus_of F.function_of self.now m) }
+    {
+        next_number(self.store.family(), self.last)
     }
 
     /// Files a run, and gives its owner capability.
@@ -54,17 +73,21 @@ impl Works {
         &mut self,
         memory: &mut Memory,
         bytes: &[u8],
-    ) -> Result<Capability, Refusal> {
-        let secret = self.next_secret();
-        Ok(
-            self.store
-                .create_file(memory, self.owner, bytes, secret, &mut [0; SETS])?,
-        )
+    ) -> Result<Capability, StoreRefusal>
+        ensures outcome { turn (told_as granted result) (state_of F.modulus_of F.function_of self.new (content memory.new)) ≡ filed (state_of F.modulus_of F.function_of self.old (content memory.old)) bytes.now }
+        ensures loan { SameLoan memory.old memory.new }
+    {
+        self.last = self.next();
+        let secret = Secret::new(self.last);
+        self.store
+            .create_file(memory, self.owner, bytes, secret, &mut [0; SETS])
     }
 
     /// What is left of a run's capability where it is restricted to reading.
-    pub(crate) fn restrict(&self, run: Capability) -> Result<Capability, Refusal> {
-        Ok(run.thin_to(self.store.family(), READING)?)
+    pub(crate) fn restrict(&self, run: Capability) -> Result<Capability, HolderRefusal>
+        ensures { (m : Content) → result ≡ restricted (state_of F.modulus_of F.function_of self.now m) run }
+    {
+        run.thin_to(self.store.family(), READING)
     }
 
     /// The bytes of a run.
@@ -72,8 +95,10 @@ impl Works {
         &self,
         memory: &'a Memory,
         run: Capability,
-    ) -> Result<&'a [u8], Refusal> {
-        Ok(self.store.read(memory, run)?)
+    ) -> Result<&'a [u8], StoreRefusal>
+        ensures { told_as the_bytes (shown result) ≡ bytes_told (state_of F.modulus_of F.function_of self.now (content memory.now)) run }
+    {
+        self.store.read(memory, run)
     }
 
     /// Gives a run another secret, so that what was handed out for it is refused; and its new owner capability.
@@ -81,8 +106,12 @@ impl Works {
         &mut self,
         memory: &mut Memory,
         run: Capability,
-    ) -> Result<Capability, Refusal> {
-        let secret = self.next_secret();
-        Ok(self.store.revoke(memory, run, secret, &mut [0; SETS])?)
+    ) -> Result<Capability, StoreRefusal>
+        ensures outcome { turn (told_as granted result) (state_of F.modulus_of F.function_of self.new (content memory.new)) ≡ withdrawn (state_of F.modulus_of F.function_of self.old (content memory.old)) run }
+        ensures loan { SameLoan memory.old memory.new }
+    {
+        self.last = self.next();
+        let secret = Secret::new(self.last);
+        self.store.revoke(memory, run, secret, &mut [0; SETS])
     }
 }
