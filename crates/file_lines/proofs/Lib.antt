@@ -1,2 +1,4 @@
+pub mod FilingFacts
 pub mod FitFacts
+pub mod LineFacts
 pub mod WorksFacts

@@ -1,3 +1,4 @@
+pub mod Filing
 pub mod Printing
 pub mod Secrets
 pub mod Works

@@ -1,6 +1,12 @@
 -- The line that a step prints.
-use Rattle.std.specs.Prelude.{ℕ, List, ◌∷◌, [], ◌++◌, codes, decimal}
+use Rattle.std.specs.Prelude.{ℕ, List, ◌∷◌, [], ◌++◌, codes, decimal, Err, Ok, Result}
 use Rattle.holder.specs.Layout.{written}
+use Rattle.holder.specs.Refusals.{holder_refusal}
+use Rattle.holder.specs.declared.capability.Capability.{Capability}
+use Rattle.holder.specs.declared.refusals.HolderRefusal.{HolderRefusal}
+use Rattle.store.specs.Refusals.{store_refusal}
+use Rattle.store.specs.Requests.{Told, granted, the_bytes}
+use Rattle.store.specs.declared.refusals.StoreRefusal.{StoreRefusal}
 use Rattle.text.specs.Hex.{hex_text}
 use Rattle.text.specs.RefusalLine.{refusal_line}
 use Rattle.file_lines.specs.declared.printing.Outcome.{Outcome}
@@ -22,6 +28,18 @@ outcome_text (Given capability) = hex_text (written capability)
 outcome_text (Bytes bytes) = bytes.now
 outcome_text (Refused refusal) = refusal_line refusal
 
+-- the same of what a store tells; nothing but these two is told where lines are filed
+abbrev pub told_text : Result Told StoreRefusal → List ℕ
+told_text (Ok (granted capability)) = hex_text (written capability)
+told_text (Ok (the_bytes bytes)) = bytes
+told_text (Ok other) = []
+told_text (Err e) = refusal_line (store_refusal e)
+
+-- and of a capability that is restricted
+abbrev pub restricted_text : Result Capability HolderRefusal → List ℕ
+restricted_text (Ok capability) = hex_text (written capability)
+restricted_text (Err e) = refusal_line (holder_refusal e)
+
 -- the step, what it came to, and a line feed
-abbrev pub step_line : Step → Outcome → List ℕ
-step_line step outcome = step_text step ++ (codes " " ++ (outcome_text outcome ++ (10 ∷ [])))
+unfoldable pub step_line : Step → List ℕ → List ℕ
+step_line step came = step_text step ++ (codes " " ++ (came ++ (10 ∷ [])))

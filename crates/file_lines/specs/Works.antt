@@ -4,7 +4,6 @@ use Rattle.holder.specs.Dropping.{thinned}
 use Rattle.holder.specs.declared.capability.Capability.{Capability}
 use Rattle.holder.specs.declared.capability.Port.{Port}
 use Rattle.holder.specs.declared.refusals.HolderRefusal.{HolderRefusal}
-use Rattle.secret.specs.declared.secrets.Secret.{Secret}
 use Rattle.memory.specs.Soundness.{Content}
 use Rattle.store.specs.Changes.{Change, change}
 use Rattle.store.specs.Held.{kept}
@@ -55,27 +54,27 @@ abbrev pub opened_with : ℕ → (ℕ → ℕ → ℕ) → ℕ → Content → R
 opened_with n f number m = opening n f port (record { value = number }) m clean
 
 -- the number of the next secret
-abbrev pub next : State → ℕ
+unfoldable pub next : State → ℕ
 next s = next_number s.kept.modulus s.kept.function s.last
 
 -- a request that brings the secret of this number is served, and the number is the last one then
-abbrev pub served_with : State → Capability → ℕ → Ask → Turn
+unfoldable pub served_with : State → Capability → ℕ → Ask → Turn
 served_with s c number ask =
     turn (served s.kept s.memory c ask).answer
     (state (served s.kept s.memory c ask).kept s.owner number (served s.kept s.memory c ask).memory)
 
 -- bytes are filed with the store's owner capability
-abbrev pub filed : State → List ℕ → Turn
+unfoldable pub filed : State → List ℕ → Turn
 filed s bytes = served_with s s.owner (next s) (create_file bytes (record { value = next s }) clean)
 
 -- a run gets the next secret
-abbrev pub withdrawn : State → Capability → Turn
+unfoldable pub withdrawn : State → Capability → Turn
 withdrawn s run = served_with s run (next s) (revoke (record { value = next s }) clean)
 
 -- a run is read
-abbrev pub bytes_told : State → Capability → Result Told StoreRefusal
+unfoldable pub bytes_told : State → Capability → Result Told StoreRefusal
 bytes_told s run = (served s.kept s.memory run read).answer
 
 -- a capability with no right but right 0, reading
-abbrev pub restricted : State → Capability → Result Capability HolderRefusal
+unfoldable pub restricted : State → Capability → Result Capability HolderRefusal
 restricted s run = thinned s.kept.modulus s.kept.function run 1

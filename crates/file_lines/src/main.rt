@@ -2,6 +2,7 @@
 #![tactic(auto)]
 
 mod filing;
+mod lines;
 mod printing;
 mod secrets;
 mod works;

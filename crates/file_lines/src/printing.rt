@@ -1,12 +1,16 @@
 //! What each step prints: a line with the step, the number of its line, and what it came to.
-ghost use Rattle.file_lines.specs.Printing.{outcome_text, step_line, step_text};
+ghost use Rattle.file_lines.specs.Printing.{outcome_text, restricted_text, step_line, step_text, told_text};
 ghost use Rattle.std.specs.Io.KnownBytes.{Appends};
-ghost use Rattle.std.specs.Prelude.{OnOk, Some};
+ghost use Rattle.std.specs.Prelude.{◌≡◌, OnOk, Some};
+ghost use Rattle.store.specs.Changes.{told_as};
+ghost use Rattle.store.specs.Reading.{shown};
+ghost use Rattle.store.specs.Requests.{granted, the_bytes};
 
-use holder::Capability;
+use holder::{Capability, HolderRefusal};
 use refusal::Refusal;
 use std::fmt;
 use std::io::{self, Write};
+use store::StoreRefusal;
 use text::{Hex, RefusalLine};
 
 /// What is done, with the number of the line that it is done to.
@@ -25,6 +29,38 @@ pub(crate) enum Outcome<'a> {
     Given(Capability),
     Bytes(&'a [u8]),
     Refused(Refusal),
+}
+
+impl<'a> Outcome<'a> {
+    /// What it came to where the store grants a capability.
+    pub(crate) fn of_granting(came: Result<Capability, StoreRefusal>) -> Outcome<'static>
+        ensures { outcome_text result ≡ told_text (told_as granted came) }
+    {
+        match came {
+            Ok(capability) => Outcome::Given(capability),
+            Err(refusal) => Outcome::Refused(refusal.into()),
+        }
+    }
+
+    /// What it came to where a capability is restricted.
+    pub(crate) fn of_restricting(came: Result<Capability, HolderRefusal>) -> Outcome<'static>
+        ensures { outcome_text result ≡ restricted_text came }
+    {
+        match came {
+            Ok(capability) => Outcome::Given(capability),
+            Err(refusal) => Outcome::Refused(refusal.into()),
+        }
+    }
+
+    /// What it came to where a run is read.
+    pub(crate) fn of_reading(came: Result<&'a [u8], StoreRefusal>) -> Outcome<'a>
+        ensures { outcome_text result ≡ told_text (told_as the_bytes (shown came.entry)) }
+    {
+        match came {
+            Ok(bytes) => Outcome::Bytes(bytes),
+            Err(refusal) => Outcome::Refused(refusal.into()),
+        }
+    }
 }
 
 impl fmt::Display for Step {
@@ -56,8 +92,9 @@ fn print_outcome<W: Write>(output: &mut W, outcome: Outcome) -> io::Result<()>
 }
 
 /// Prints the line of a step.
+#[tactic(auto, unfolding(crate::specs::Printing::step_line))]
 pub(crate) fn print_step<W: Write>(output: &mut W, step: Step, outcome: Outcome) -> io::Result<()>
-    ensures { OnOk result (Appends (W.contents output.old) (W.contents output.new) (step_line step outcome.entry)) }
+    ensures { OnOk result (Appends (W.contents output.old) (W.contents output.new) (step_line step (outcome_text outcome.entry))) }
 {
     write!(output, "{step} ")?;
     print_outcome(output, outcome)?;

@@ -62,6 +62,7 @@ impl<F: CommutingFamily + Drop> Works<F> {
     }
 
     /// The number of the next secret.
+    #[tactic(auto, unfolding(crate::specs::Works::next))]
     fn next(&self) -> u64
         ensures { (m : Content) → result ≡ next (state_of F.modulus_of F.function_of self.now m) }
     {
@@ -84,6 +85,7 @@ impl<F: CommutingFamily + Drop> Works<F> {
     }
 
     /// What is left of a run's capability where it is restricted to reading.
+    #[tactic(auto, unfolding(crate::specs::Works::restricted))]
     pub(crate) fn restrict(&self, run: Capability) -> Result<Capability, HolderRefusal>
         ensures { (m : Content) → result ≡ restricted (state_of F.modulus_of F.function_of self.now m) run }
     {
@@ -91,6 +93,7 @@ impl<F: CommutingFamily + Drop> Works<F> {
     }
 
     /// The bytes of a run.
+    #[tactic(auto, unfolding(crate::specs::Works::bytes_told))]
     pub(crate) fn read<'a>(
         &self,
         memory: &'a Memory,
