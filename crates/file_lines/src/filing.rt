@@ -13,6 +13,7 @@ ghost use Rattle.std.specs.Prelude.{◌≡◌, ◌++◌, [], IfOk, IfSome, OnOk}
 use crate::lines::read_line;
 use crate::printing::{Outcome, Step, print_step};
 use crate::works::Works;
+use anyhow::Context;
 use family::CommutingFamily;
 use holder::Capability;
 use memory::Memory;
@@ -96,7 +97,7 @@ fn file_lines<F: CommutingFamily + Drop, R: Read + Drop, W: Write>(
     let mut runs = Vec::new(alloc);
     let mut bytes = Vec::new(alloc);
     for line in 1..u64::MAX {
-        if !read_line(input, &mut bytes)? {
+        if !read_line(input, &mut bytes).context("the lines cannot be read")? {
             return Ok(runs);
         }
         let run = file_line(works, memory, line, &bytes, output)?;
@@ -181,6 +182,7 @@ pub(crate) fn file_all<F: CommutingFamily + Drop, R: Read + Drop, W: Write>(
     ensures { OnOk result (IfSome (reader_remaining R.remaining input.old) (λ xs. Appends (W.contents output.old) (W.contents output.new) (whole_text (state_of F.modulus_of F.function_of works.old (content memory.old)) (lines_in xs)))) }
 {
     print_step(output, Step::Open, Outcome::Given(works.owner()))?;
+    output.flush()?;
     let runs = file_lines(alloc, works, memory, input, output)?;
     close(works, memory, &runs, output)?;
     Ok(())
