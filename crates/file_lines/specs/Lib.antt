@@ -1,4 +1,5 @@
 pub mod Filing
+pub mod Opening
 pub mod Printing
 pub mod Secrets
 pub mod Works

@@ -1,6 +1,10 @@
 //! file_lines: files the lines of its input as runs in a store of its own, hands them out for reading, and withdraws the first.
 #![tactic(auto)]
 
+ghost use Rattle.file_lines.specs.Opening.{opened_over, powers_as};
+ghost use Rattle.memory.specs.Held.{content};
+ghost use Rattle.std.specs.Prelude.{◌≡◌};
+
 mod filing;
 mod lines;
 mod printing;
@@ -38,7 +42,9 @@ when lines could not be read or steps not be printed.
 ";
 
 /// Opens a store of powers.
-fn open(modulus: u64, secret: u64, memory: &mut Memory) -> Result<Works<Powers>, Refusal> {
+fn open(modulus: u64, secret: u64, memory: &mut Memory) -> Result<Works<Powers>, Refusal>
+    ensures { powers_as (content memory.new) result ≡ opened_over modulus secret (content memory.old) }
+{
     Ok(Works::open(Powers::new(modulus)?, secret, memory)?)
 }
 
