@@ -7,12 +7,11 @@ use Rattle.std.specs.Io.KnownBytes.{Appends}
 use Rattle.console.specs.Lines.{behind, line_in, lines_in}
 use Rattle.console.specs.Reading.{is_any}
 use Rattle.console.proofs.PrintFacts.{lines_parted}
-use Rattle.holder.specs.Layout.{written}
-use Rattle.text.specs.Hex.{hex_text}
 use Rattle.file_lines.specs.Filing.{Filing, FilesAll, closing_text, filing, filing_text, in_front, reading_text, readings_text, run_told, whole_text, with_run}
-use Rattle.file_lines.specs.Printing.{step_line}
+use Rattle.file_lines.specs.Printing.{outcome_text, step_line}
 use Rattle.file_lines.specs.Works.{State, Turn, filed}
 use Rattle.file_lines.specs.declared.filing.Run.{Run}
+use Rattle.file_lines.specs.declared.printing.Outcome.TheVariants.{Given}
 use Rattle.file_lines.specs.declared.printing.Step.TheVariants.{Open}
 
 -- what was printed, and then what a step prints
@@ -26,18 +25,20 @@ abbrev pub behind_these : List ℕ → List Run → Filing → Filing
 behind_these bytes runs f = record { text = bytes ++ f.text; runs = runs ++ f.runs; after = f.after }
 
 -- what was printed and filed so far, and what is still to come, are together what comes of all lines
-pub record Going (s : State) (input was : Option (List ℕ)) (now : State) (line : ℕ) (left is : Option (List ℕ)) (runs : List Run) : Type 0 where
+pub record FiledSoFar (s : State) (input was : Option (List ℕ)) (now : State) (line : ℕ) (left is : Option (List ℕ)) (runs : List Run) : Type 0 where
   pub bytes : List ℕ
   pub printed : Appends was is bytes
   pub still : IfSome input (λ xs. (ys : List ℕ) × (left ≡ Some ys) × (filing s 1 (lines_in xs) ≡ behind_these bytes runs (filing now line (lines_in ys))))
 
-pub nothing_yet : (s : State) (input was : Option (List ℕ)) → Going s input was s 1 input was []
+-- before the first line
+pub nothing_yet : (s : State) (input was : Option (List ℕ)) → FiledSoFar s input was s 1 input was []
 nothing_yet s input was = record { bytes = []; printed = Appends-nil was; still = all input }
   where
     all : (input : Option (List ℕ)) → IfSome input (λ xs. (ys : List ℕ) × (input ≡ Some ys) × (filing s 1 (lines_in xs) ≡ behind_these [] [] (filing s 1 (lines_in ys))))
     all None = tt
     all (Some xs) = (xs, refl, refl)
 
+-- a run in front, apart from those behind it
 one_run : (run : Option Run) (runs : List Run) → with_run run runs ≡ with_run run [] ++ runs
 one_run None runs = refl
 one_run (Some run) runs = refl
@@ -57,10 +58,10 @@ one_done bytes runs line t f =
 -- one more line
 pub line_done : (s : State) (input was : Option (List ℕ)) (now : State) (line : ℕ) (left is : Option (List ℕ)) (runs : List Run)
     (after : State) (rest more : Option (List ℕ)) (bytes : List ℕ) (any : Bool) (run : Option Run)
-    → Going s input was now line left is runs → any ≡ true
+    → FiledSoFar s input was now line left is runs → any ≡ true
     → IfSome left (λ xs. any ≡ is_any xs) → IfSome left (λ xs. bytes ≡ line_in xs) → IfSome left (λ xs. rest ≡ Some (behind xs))
     → Appends is more (filing_text line (filed now bytes)) → run ≡ run_told line (filed now bytes) → after ≡ (filed now bytes).after
-    → Going s input was after (line + 1) rest more (runs ++ with_run run [])
+    → FiledSoFar s input was after (line + 1) rest more (runs ++ with_run run [])
 line_done s input was now line left is runs after rest more bytes any run so_far is_line tells is_it behind_it adds gives goes =
     record {
       bytes = so_far.bytes ++ told;
@@ -96,7 +97,7 @@ line_done s input was now line left is runs after rest more bytes any run so_far
 
 -- where no line is left, all are filed
 pub all_done : (s : State) (input was : Option (List ℕ)) (now : State) (line : ℕ) (left is : Option (List ℕ)) (runs : List Run) (any : Bool)
-    → Going s input was now line left is runs → any ≡ false → IfSome left (λ xs. any ≡ is_any xs) → FilesAll s input was is runs now
+    → FiledSoFar s input was now line left is runs → any ≡ false → IfSome left (λ xs. any ≡ is_any xs) → FilesAll s input was is runs now
 all_done s None was now line left is runs any so_far none tells = record { all = tt }
 all_done s (Some xs) was now line left is runs any so_far none tells = record { all = at so_far.still }
   where
@@ -117,7 +118,7 @@ all_done s (Some xs) was now line left is runs any so_far none tells = record { 
 
 -- the opening, all lines, and what is printed once they are at their end
 pub whole_printed : {A E : Type 0} (r : Result A E) (s : State) (input was opened between is : Option (List ℕ)) (runs : List Run) (after : State)
-    → Appends was opened (step_line Open (hex_text (written s.owner))) → FilesAll s input opened between runs after → OnOk r (Appends between is (closing_text after runs))
+    → Appends was opened (step_line Open (outcome_text (Given s.owner))) → FilesAll s input opened between runs after → OnOk r (Appends between is (closing_text after runs))
     → OnOk r (IfSome input (λ xs. Appends was is (whole_text s (lines_in xs))))
 whole_printed (Err e) s input was opened between is runs after first files last = tt
 whole_printed (Ok x) s None was opened between is runs after first files last = tt
@@ -128,18 +129,18 @@ whole_printed (Ok x) s (Some xs) was opened between is runs after first files la
     Appends-trans was opened is _ _ first (Appends-trans opened between is _ _ files.all.0 closing)
 
 -- what was read so far, and what is still to be read, are together all runs read
-pub record Reading (s : State) (was : Option (List ℕ)) (runs left : List Run) (is : Option (List ℕ)) : Type 0 where
+pub record ReadSoFar (s : State) (was : Option (List ℕ)) (runs left : List Run) (is : Option (List ℕ)) : Type 0 where
   pub bytes : List ℕ
   pub printed : Appends was is bytes
   pub still : readings_text s runs ≡ bytes ++ readings_text s left
 
 -- before the first one
-pub none_read : (s : State) (was : Option (List ℕ)) (runs : List Run) → Reading s was runs runs was
+pub none_read : (s : State) (was : Option (List ℕ)) (runs : List Run) → ReadSoFar s was runs runs was
 none_read s was runs = record { bytes = []; printed = Appends-nil was; still = refl }
 
 -- one run more is read
 pub one_read : (s : State) (was : Option (List ℕ)) (runs : List Run) (i : ℕ) (is more : Option (List ℕ)) (none : Run)
-    → Reading s was runs (drop i runs) is → i < length runs → Appends is more (reading_text s (get_or runs i none)) → Reading s was runs (drop (i + 1) runs) more
+    → ReadSoFar s was runs (drop i runs) is → i < length runs → Appends is more (reading_text s (get_or runs i none)) → ReadSoFar s was runs (drop (i + 1) runs) more
 one_read s was runs i is more none so_far within adds =
     record {
       bytes = so_far.bytes ++ reading_text s run;
@@ -154,6 +155,6 @@ one_read s was runs i is more none so_far within adds =
     next = let more : suc i ≡ i + 1 = omega arith in subst (λ j. drop i runs ≡ run ∷ drop j runs) more (drop-cons runs i none within)
 
 -- where none is left, all are read
-pub all_read : (s : State) (was : Option (List ℕ)) (runs left : List Run) (is : Option (List ℕ)) → Reading s was runs left is → left ≡ [] → Appends was is (readings_text s runs)
+pub all_read : (s : State) (was : Option (List ℕ)) (runs left : List Run) (is : Option (List ℕ)) → ReadSoFar s was runs left is → left ≡ [] → Appends was is (readings_text s runs)
 all_read s was runs left is so_far none =
     subst (Appends was is) (sym (so_far.still ∙ ap (λ l. so_far.bytes ++ readings_text s l) none ∙ append-nil so_far.bytes)) so_far.printed

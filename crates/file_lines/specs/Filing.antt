@@ -2,15 +2,14 @@
 use Rattle.std.specs.Prelude.{◌≡◌, ℕ, ◌+◌, List, [], ◌∷◌, ◌++◌, None, Some, Option, Err, Ok, Result, IfSome}
 use Rattle.std.specs.Io.KnownBytes.{Appends}
 use Rattle.console.specs.Lines.{lines_in}
-use Rattle.holder.specs.Layout.{written}
 use Rattle.holder.specs.declared.capability.Capability.{Capability}
 use Rattle.holder.specs.declared.refusals.HolderRefusal.{HolderRefusal}
 use Rattle.store.specs.Requests.{Told, granted}
 use Rattle.store.specs.declared.refusals.StoreRefusal.{StoreRefusal}
-use Rattle.text.specs.Hex.{hex_text}
-use Rattle.file_lines.specs.Printing.{restricted_text, step_line, told_text}
+use Rattle.file_lines.specs.Printing.{outcome_text, restricted_text, step_line, told_text}
 use Rattle.file_lines.specs.Works.{State, Turn, bytes_told, filed, restricted, withdrawn}
 use Rattle.file_lines.specs.declared.filing.Run.{Run}
+use Rattle.file_lines.specs.declared.printing.Outcome.TheVariants.{Given}
 use Rattle.file_lines.specs.declared.printing.Step.TheVariants.{File, Open, Read, Restrict, Withdraw}
 
 -- the run of a line, if its owner capability could be restricted
@@ -18,11 +17,12 @@ abbrev pub run_with : ℕ → Capability → Result Capability HolderRefusal →
 run_with line owner (Ok reader) = Some (record { line = line; owner = owner; reader = reader })
 run_with line owner (Err e) = None
 
--- the same once it is known what filing the line came to
+-- the run of a line, by what filing it told, if it was filed and restricted
 abbrev pub run_in : ℕ → State → Result Told StoreRefusal → Option Run
 run_in line s (Ok (granted owner)) = run_with line owner (restricted s owner)
 run_in line s other = None
 
+-- the same, once filing came to this
 abbrev pub run_told : ℕ → Turn → Option Run
 run_told line t = run_in line t.after t.told
 
@@ -85,7 +85,7 @@ closing_text s runs = readings_text s runs ++ first_withdrawn s runs
 -- all that is printed: the opening, what comes of the lines, and what follows
 abbrev pub whole_text : State → List (List ℕ) → List ℕ
 whole_text s lines =
-    step_line Open (hex_text (written s.owner)) ++ ((filing s 1 lines).text ++ closing_text (filing s 1 lines).after (filing s 1 lines).runs)
+    step_line Open (outcome_text (Given s.owner)) ++ ((filing s 1 lines).text ++ closing_text (filing s 1 lines).after (filing s 1 lines).runs)
 
 -- the lines that a reader of known bytes had were all filed: this was printed, these are the runs, and this is what there is then
 pub record FilesAll (s : State) (input was is : Option (List ℕ)) (runs : List Run) (after : State) : Type 0 where

@@ -30,15 +30,15 @@ outcome_text (Refused refusal) = refusal_line refusal
 
 -- the same of what a store tells; nothing but these two is told where lines are filed
 abbrev pub told_text : Result Told StoreRefusal → List ℕ
-told_text (Ok (granted capability)) = hex_text (written capability)
+told_text (Ok (granted capability)) = outcome_text (Given capability)
 told_text (Ok (the_bytes bytes)) = bytes
 told_text (Ok other) = []
-told_text (Err e) = refusal_line (store_refusal e)
+told_text (Err e) = outcome_text (Refused (store_refusal e))
 
 -- and of a capability that is restricted
 abbrev pub restricted_text : Result Capability HolderRefusal → List ℕ
-restricted_text (Ok capability) = hex_text (written capability)
-restricted_text (Err e) = refusal_line (holder_refusal e)
+restricted_text (Ok capability) = outcome_text (Given capability)
+restricted_text (Err e) = outcome_text (Refused (holder_refusal e))
 
 -- the step, what it came to, and a line feed
 unfoldable pub step_line : Step → List ℕ → List ℕ

@@ -1,7 +1,6 @@
 //! The works with a store: a run filed, and one withdrawn.
 ghost use Rattle.file_lines.specs.Works.{bytes_told, filed, next, opened_with, restricted, state_of, turn, withdrawn, works_as};
 ghost use Rattle.memory.specs.Held.{content};
-ghost use Rattle.memory.specs.Loans.{SameLoan};
 ghost use Rattle.memory.specs.Soundness.{Content};
 ghost use Rattle.std.specs.Prelude.{◌≡◌, IfOk};
 ghost use Rattle.store.specs.Changes.{told_as};
@@ -39,7 +38,6 @@ impl<F: CommutingFamily + Drop> Works<F> {
     ) -> Result<Works<F>, StoreRefusal>
         ensures outcome { works_as F.modulus_of F.function_of (content memory.new) result ≡ opened_with (F.modulus_of family) (F.function_of family) secret (content memory.old) }
         ensures last { IfOk result (λ works. works.last ≡ secret) }
-        ensures loan { SameLoan memory.old memory.new }
     {
         let gate = Gate {
             family,
@@ -75,8 +73,7 @@ impl<F: CommutingFamily + Drop> Works<F> {
         memory: &mut Memory,
         bytes: &[u8],
     ) -> Result<Capability, StoreRefusal>
-        ensures outcome { turn (told_as granted result) (state_of F.modulus_of F.function_of self.new (content memory.new)) ≡ filed (state_of F.modulus_of F.function_of self.old (content memory.old)) bytes.now }
-        ensures loan { SameLoan memory.old memory.new }
+        ensures { turn (told_as granted result) (state_of F.modulus_of F.function_of self.new (content memory.new)) ≡ filed (state_of F.modulus_of F.function_of self.old (content memory.old)) bytes.now }
     {
         self.last = self.next();
         let secret = Secret::new(self.last);
@@ -110,8 +107,7 @@ impl<F: CommutingFamily + Drop> Works<F> {
         memory: &mut Memory,
         run: Capability,
     ) -> Result<Capability, StoreRefusal>
-        ensures outcome { turn (told_as granted result) (state_of F.modulus_of F.function_of self.new (content memory.new)) ≡ withdrawn (state_of F.modulus_of F.function_of self.old (content memory.old)) run }
-        ensures loan { SameLoan memory.old memory.new }
+        ensures { turn (told_as granted result) (state_of F.modulus_of F.function_of self.new (content memory.new)) ≡ withdrawn (state_of F.modulus_of F.function_of self.old (content memory.old)) run }
     {
         self.last = self.next();
         let secret = Secret::new(self.last);

@@ -16,5 +16,5 @@ returns-in-Ok-clause-text g c =
     let is = g.W.Write.contents c.restrict.new.output in
     let first = subst (λ came. Appends was between (step_line (File c.args.line) came))
     (c.of_granting.ensures ∙ ap (λ r. told_text (told_as granted r)) c.in-Ok.is) c.in_ok-print_step.ensures in
-    subst (λ t. OnOk c.restrict.result (Appends was is (filing_text c.args.line t))) c.in-Ok.ensures.outcome
+    subst (λ t. OnOk c.restrict.result (Appends was is (filing_text c.args.line t))) c.in-Ok.ensures
     (printed_then c.restrict.result was between is _ _ first (c.restrict.ensures.text (content c.file-filed.new.memory)))

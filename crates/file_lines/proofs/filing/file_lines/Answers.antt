@@ -5,7 +5,7 @@ use Rattle.console.specs.Lines.{behind, line_in}
 use Rattle.console.specs.Reading.{is_any}
 use Rattle.memory.specs.Held.{content}
 use Rattle.file_lines.specs.Works.{state_of}
-use Rattle.file_lines.proofs.FilingFacts.{Going, all_done, line_done}
+use Rattle.file_lines.proofs.FilingFacts.{FiledSoFar, all_done, line_done}
 use Rattle.file_lines.proofs.filing.file_lines.Goals as goal
 
 pub returns-then-not-branch : goal.returns-then-not-branch
@@ -32,6 +32,6 @@ loop-line-preserved g c =
     let is_it = subst (λ l. IfSome left (λ xs. l ≡ line_in xs)) (sym c.deref.ensures.value) read in
     let behind_it = subst (λ r. OnOk r (IfSome left (λ xs. rest ≡ Some (behind xs)))) c.in_ok-context.ensures c.read_line.ensures.rest in
     let adds = Appends-kept held (g.W.Write.contents c.file_line.new.output) more _ c.in_ok-run.ensures.text c.in_ok-flush.ensures.bytes in
-    subst (Going s input was after (c.loop-line.line + 1) rest more) (sym c.in_ok-add_run.ensures)
+    subst (FiledSoFar s input was after (c.loop-line.line + 1) rest more) (sym c.in_ok-add_run.ensures)
     (line_done s input was now c.loop-line.line left held c.loop-line.runs.items after rest more bytes c.in_ok-context.field-0 c.in_ok-run.run'
     c.loop-line.invariant c.if-not-branch.false tells is_it behind_it adds c.in_ok-run.ensures.run c.in_ok-run.ensures.after)

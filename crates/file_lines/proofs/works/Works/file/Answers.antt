@@ -3,8 +3,8 @@ use Rattle.file_lines.specs.Works.{State, state_of}
 use Rattle.file_lines.proofs.WorksFacts.{files}
 use Rattle.file_lines.proofs.works.Works.file.Goals as goal
 
-pub returns-clause-outcome : goal.returns-clause-outcome
-returns-clause-outcome g c =
+pub returns : goal.returns
+returns g c =
     let m = content c.args.memory.now in
     let s : State = state_of g.F.CommutingFamily.modulus_of g.F.CommutingFamily.function_of c.args.self.now m in
     files s c.args.bytes.now c.next-self.result c.new-secret.result _ c.create_file.ensures.outcome c.new-secret.ensures (c.next-self.ensures m)
