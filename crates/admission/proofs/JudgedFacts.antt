@@ -2,24 +2,24 @@
 use Rattle.std.proofs.Common.{◌≡◌, ℕ, ◌<◌, Bool, true, List, Some, Ok, Result, sym, ap, ◌∙◌}
 use Rattle.refusal.specs.Chains.{unless, given}
 use Rattle.refusal.proofs.ChainFacts.{unless_ok, given_ok, same_ok}
-use Rattle.family.specs.Commuting.{Commuting}
-use Rattle.holder.specs.Dropping.{check_number, kept}
+use Rattle.family.specs.Commuting.{Family, IsCommuting}
+use Rattle.holder.specs.Dropping.{check_number, within_mask}
 use Rattle.holder.specs.declared.capability.Capability.{Capability}
-use Rattle.secret.specs.Accepted.{accepted}
-use Rattle.secret.specs.declared.secrets.Secret.{Secret}
+use Rattle.secret.specs.Accepted.{is_accepted}
+use Rattle.secret.specs.declared.secret.Secret.{Secret}
 use Rattle.secret.proofs.AcceptFacts.{accepted_low, accepted_kept}
-use Rattle.memory.specs.Names.{same_bytes}
+use Rattle.std.specs.Str.{bytes_eq}
 use Rattle.memory.specs.Soundness.{Content}
-use Rattle.memory.proofs.Same.{same_true, same_equal}
-use Rattle.admission.specs.Admission.{judged}
-use Rattle.admission.specs.Objects.{located, secret_of, object_of}
-use Rattle.admission.specs.declared.denials.Denial.{Denial}
-use Rattle.admission.specs.declared.denials.Denial.TheVariants.{WrongPort, NoSuchObject, WrongCheck}
-use Rattle.admission.specs.declared.objects.Target.{Target}
+use Rattle.std.proofs.lemmas.Slice.Eq.{bytes_eq-Decides}
+use Rattle.admission.specs.Admission.{authentic_target}
+use Rattle.admission.specs.Objects.{target_at, secret_of, object_number}
+use Rattle.admission.specs.declared.error.Denial.{Denial}
+use Rattle.admission.specs.declared.error.Denial.TheVariants.{WrongPort, NoSuchObject, WrongCheck}
+use Rattle.admission.specs.declared.target.Target.{Target}
 
-module _ (n : ℕ) (f : ℕ → ℕ → ℕ) (port : List ℕ) (own : Secret) (m : Content) where
+module _ (F : Family) (port : List ℕ) (own : Secret) (m : Content) where
   abbrev accepts : Capability → Target → Bool
-  accepts c t = accepted n f (secret_of own t).value c.rights.bits (check_number c)
+  accepts c t = is_accepted F (secret_of own t).value c.rights.bits (check_number c)
 
   abbrev check : Capability → Target → Result Target Denial
   check c t = unless (accepts c t) WrongCheck (Ok t)
@@ -27,43 +27,51 @@ module _ (n : ℕ) (f : ℕ → ℕ → ℕ) (port : List ℕ) (own : Secret) (m
   -- what the judgement asks: this port, a live object, and a check that its secret accepts
   record Passes (c : Capability) (t : Target) : Type 0 where
     port_is : c.port.bytes ≡ port
-    object_is : located m (object_of c) ≡ Some t
+    object_is : target_at m (object_number c) ≡ Some t
     check_is : accepts c t ≡ true
 
-  judged_passes : (c : Capability) (t : Target) → judged n f port own m c ≡ Ok t → Passes c t
+  judged_passes : (c : Capability) (t : Target) → authentic_target F port own m c ≡ Ok t
+      → Passes c t
   judged_passes c t e =
-      let here = unless_ok (same_bytes c.port.bytes port) WrongPort (given (located m (object_of c)) NoSuchObject (check c)) t e in
-      let object = given_ok (located m (object_of c)) NoSuchObject (check c) t here.1 in
+      let here =
+      unless_ok (bytes_eq c.port.bytes port) WrongPort
+      (given (target_at m (object_number c)) NoSuchObject (check c)) t e in
+      let object = given_ok (target_at m (object_number c)) NoSuchObject (check c) t here.1 in
       let accept = unless_ok (accepts c object.0) WrongCheck (Ok object.0) t object.1.1 in
       let same : object.0 ≡ t = same_ok accept.1 in
       record {
-        port_is = same_equal c.port.bytes port here.0;
+        port_is = (bytes_eq-Decides c.port.bytes port).0 here.0;
         object_is = object.1.0 ∙ ap Some same;
         check_is = ap (accepts c) (sym same) ∙ accept.0;
       }
 
-  passes_judged : (c : Capability) (t : Target) → Passes c t → judged n f port own m c ≡ Ok t
+  passes_judged : (c : Capability) (t : Target) → Passes c t
+      → authentic_target F port own m c ≡ Ok t
   passes_judged c t p =
-      ap (λ b. unless b WrongPort (given (located m (object_of c)) NoSuchObject (check c))) (same_true c.port.bytes port p.port_is)
+      ap (λ b. unless b WrongPort (given (target_at m (object_number c)) NoSuchObject (check c)))
+      ((bytes_eq-Decides c.port.bytes port).1 p.port_is)
       ∙ ap (λ x. given x NoSuchObject (check c)) p.object_is
       ∙ ap (λ b. unless b WrongCheck (Ok t)) p.check_is
 
-  pub judged_low : (c : Capability) (t : Target) → judged n f port own m c ≡ Ok t → check_number c < n
-  judged_low c t e = accepted_low n f (secret_of own t).value c.rights.bits (check_number c) (judged_passes c t e).check_is
+  pub judged_low : (c : Capability) (t : Target) → authentic_target F port own m c ≡ Ok t
+      → check_number c < F.modulus
+  judged_low c t e =
+      accepted_low F (secret_of own t).value c.rights.bits (check_number c)
+      (judged_passes c t e).check_is
 
-  pub judged_port : (c : Capability) (t : Target) → judged n f port own m c ≡ Ok t → c.port.bytes ≡ port
-  judged_port c t e = (judged_passes c t e).port_is
-
-  pub judged_at : (c : Capability) (t : Target) → judged n f port own m c ≡ Ok t → located m (object_of c) ≡ Some t
+  pub judged_at : (c : Capability) (t : Target) → authentic_target F port own m c ≡ Ok t
+      → target_at m (object_number c) ≡ Some t
   judged_at c t e = (judged_passes c t e).object_is
 
   -- what is left of an accepted capability is accepted
-  pub judged_kept : Commuting n f → (c : Capability) (t : Target) (mask : ℕ) → mask < 256 → (secret_of own t).value < n
-      → judged n f port own m c ≡ Ok t → judged n f port own m (kept f c mask) ≡ Ok t
+  pub judged_kept : IsCommuting F → (c : Capability) (t : Target) (mask : ℕ) → mask < 256
+      → (secret_of own t).value < F.modulus
+      → authentic_target F port own m c ≡ Ok t
+      → authentic_target F port own m (within_mask F.function c mask) ≡ Ok t
   judged_kept family c t mask q h e =
       let p : Passes c t = judged_passes c t e in
-      passes_judged (kept f c mask) t (record {
+      passes_judged (within_mask F.function c mask) t (record {
         port_is = p.port_is;
         object_is = p.object_is;
-        check_is = accepted_kept n f family (secret_of own t).value h c mask q p.check_is;
+        check_is = accepted_kept F family (secret_of own t).value h c mask q p.check_is;
       })

@@ -2,8 +2,8 @@
 use Rattle.std.specs.Prelude.{ℕ}
 use Rattle.refusal.specs.declared.Refusal.{Refusal}
 use Rattle.refusal.specs.declared.Layer.TheVariants.{Store}
-use Rattle.admission.specs.declared.denials.Denial.{Denial}
-use Rattle.admission.specs.declared.denials.Denial.TheVariants.{WrongPort, NoSuchObject, WrongCheck, WrongKind, RightMissing}
+use Rattle.admission.specs.declared.error.Denial.{Denial}
+use Rattle.admission.specs.declared.error.Denial.TheVariants.{WrongPort, NoSuchObject, WrongCheck, WrongKind, RightMissing}
 
 abbrev pub denial_number : Denial → ℕ
 denial_number WrongPort = 10

@@ -1,17 +1,17 @@
 //! The gate that every request passes.
-ghost use Rattle.admission.specs.Admission.{admitted, judged, permitted};
+ghost use Rattle.admission.specs.Admission.{admitted_target, authentic_target, authorized_target};
 ghost use Rattle.memory.specs.Held.{content};
 ghost use Rattle.std.specs.Prelude.{◌≡◌};
 
-use crate::denials::Denial;
-use crate::objects::{Target, locate};
-use crate::requests::{Asking, has_one};
+use crate::error::Denial;
+use crate::need::{Need, has_one};
+use crate::target::{Target, locate};
 use family::CommutingFamily;
 use holder::{Capability, Port, Rights};
 use memory::Memory;
 use secret::Secret;
 
-/// What a store is known by: its family, its port and its own secret.
+/// The family, the port and the own secret of a store, against which it tests capabilities.
 #[derive(Clone, Copy)]
 pub struct Gate<F> {
     pub family: F,
@@ -19,23 +19,25 @@ pub struct Gate<F> {
     pub secret: Secret,
 }
 
-/// The object, if it may be asked so with these rights.
-fn permit(asking: Asking, target: Target, rights: Rights) -> Result<Target, Denial>
-    ensures { result ≡ permitted asking target rights.bits }
+/// The object, if it is of a kind that the need allows, and the rights hold one that it wants.
+fn authorize(need: Need, target: Target, rights: Rights) -> Result<Target, Denial>
+    ensures { result ≡ authorized_target need target rights.bits }
 {
-    if !asking.fits(target) {
+    if !need.kinds.fit(target) {
         return Err(Denial::WrongKind);
     }
-    if !has_one(rights.bits, asking.rights()) {
+    if !has_one(rights.bits, need.rights) {
         return Err(Denial::RightMissing);
     }
     Ok(target)
 }
 
 impl<F: CommutingFamily> Gate<F> {
-    /// The object of a capability that is accepted now.
-    pub fn judge(&self, memory: &Memory, capability: Capability) -> Result<Target, Denial>
-        ensures { result ≡ judged (F.modulus_of self.now.family) (F.function_of self.now.family) self.now.port.bytes self.now.secret (content memory.now) capability }
+    /// The live object of a capability of this port whose check its secret accepts now.
+    pub fn authenticate(&self, memory: &Memory, capability: Capability) -> Result<Target, Denial>
+        ensures { result
+            ≡ authentic_target (F.meaning self.now.family) self.now.port.bytes self.now.secret
+            (content memory.now) capability }
     {
         if capability.port != self.port {
             return Err(Denial::WrongPort);
@@ -50,16 +52,18 @@ impl<F: CommutingFamily> Gate<F> {
         Ok(target)
     }
 
-    /// The object of a capability that is admitted to a request.
+    /// The object of a capability that meets the need of a request.
     pub fn admit(
         &self,
         memory: &Memory,
-        asking: Asking,
+        need: Need,
         capability: Capability,
     ) -> Result<Target, Denial>
-        ensures { result ≡ admitted (F.modulus_of self.now.family) (F.function_of self.now.family) self.now.port.bytes self.now.secret (content memory.now) asking capability }
+        ensures { result
+            ≡ admitted_target (F.meaning self.now.family) self.now.port.bytes self.now.secret
+            (content memory.now) need capability }
     {
-        let target = self.judge(memory, capability)?;
-        permit(asking, target, capability.rights)
+        let target = self.authenticate(memory, capability)?;
+        authorize(need, target, capability.rights)
     }
 }

@@ -1,12 +1,12 @@
-//! Whether a presented capability is admitted to a request: port, object, check, kind and right.
+//! Whether a presented capability is admitted: port, object, check, kind and right.
 #![tactic(auto)]
 
-mod denials;
+mod error;
 mod gate;
-mod objects;
-mod requests;
+mod need;
+mod target;
 
-pub use denials::Denial;
+pub use error::Denial;
 pub use gate::Gate;
-pub use objects::{Target, locate};
-pub use requests::Asking;
+pub use need::{Kinds, Need};
+pub use target::Target;

@@ -8,7 +8,9 @@ all_below p zero = true
 all_below p (suc n) = p n && all_below p n
 
 pub at_each : (p : ℕ → Bool) (n : ℕ) → all_below p n ≡ true → (k : ℕ) → k < n → p k ≡ true
-at_each p n e = (Decides-below_and p (λ k. p k ≡ true) (all_below p) (λ k. (λ x. x, λ x. x)) refl (λ _. refl) n).0 e
+at_each p n e =
+    (Decides-below_and p (λ k. p k ≡ true) (all_below p) (λ k. (λ x. x, λ x. x)) refl (λ _. refl)
+    n).0 e
 
 -- two answers agree
 abbrev pub agree : Bool → Bool → Bool

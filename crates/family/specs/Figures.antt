@@ -1,10 +1,10 @@
 -- Worked figures, about the functions that the two families give.
 use Rattle.std.specs.Prelude.{◌≡◌, ℕ, List, [], ◌∷◌}
-use Rattle.family.specs.Fit.{Fit}
-use Rattle.family.specs.declared.modular_powers.Powers.{Powers}
-use Rattle.family.specs.declared.dickson_polynomials.Dickson.{Dickson}
-use Rattle.family.specs.contracts.modular_powers.PowersCommutingFamily.TheImpl.{ghosts as in_powers}
-use Rattle.family.specs.contracts.dickson_polynomials.DicksonCommutingFamily.TheImpl.{ghosts as in_dickson}
+use Rattle.family.specs.Fit.{IsFit}
+use Rattle.family.specs.declared.powers.Powers.{Powers}
+use Rattle.family.specs.declared.dickson.Dickson.{Dickson}
+use Rattle.family.specs.contracts.powers.PowersCommutingFamily.TheImpl.{ghosts as in_powers}
+use Rattle.family.specs.contracts.dickson.DicksonCommutingFamily.TheImpl.{ghosts as in_dickson}
 
 pub data Figure : Type 0 where
   -- over the modulus n, the functions of the listed rights, one after the other, lead from v to w
@@ -15,19 +15,23 @@ pub data Figure : Type 0 where
   unfit_in_dickson : (s : ℕ) → Figure
 
 -- the functions of the listed rights, one after the other
-abbrev pub in_turn : (ℕ → ℕ → ℕ) → List ℕ → ℕ → ℕ
-in_turn f [] v = v
-in_turn f (k ∷ ks) v = in_turn f ks (f k v)
+abbrev pub value_after : (ℕ → ℕ → ℕ) → List ℕ → ℕ → ℕ
+value_after f [] v = v
+value_after f (k ∷ ks) v = value_after f ks (f k v)
 
 abbrev pub Holds : Figure → Type 0
-Holds (powers_lead n ks v w) = (p : Powers) → in_powers.modulus_of p ≡ n → in_turn (in_powers.function_of p) ks v ≡ w
-Holds (dickson_leads n ks v w) = (d : Dickson) → in_dickson.modulus_of d ≡ n → in_turn (in_dickson.function_of d) ks v ≡ w
-Holds (unfit_in_powers s) = (p : Powers) → Fit (in_powers.modulus_of p) (in_powers.function_of p) s → ⊥
-Holds (unfit_in_dickson s) = (d : Dickson) → Fit (in_dickson.modulus_of d) (in_dickson.function_of d) s → ⊥
+Holds (powers_lead n ks v w) =
+    (p : Powers) → (in_powers.meaning p).modulus ≡ n
+    → value_after (in_powers.meaning p).function ks v ≡ w
+Holds (dickson_leads n ks v w) =
+    (d : Dickson) → (in_dickson.meaning d).modulus ≡ n
+    → value_after (in_dickson.meaning d).function ks v ≡ w
+Holds (unfit_in_powers s) = (p : Powers) → IsFit (in_powers.meaning p) s → ⊥
+Holds (unfit_in_dickson s) = (d : Dickson) → IsFit (in_dickson.meaning d) s → ⊥
 
-abbrev pub Each : List Figure → Type 0
-Each [] = Unit {0}
-Each (x ∷ xs) = Holds x × Each xs
+abbrev pub EachHolds : List Figure → Type 0
+EachHolds [] = Unit {0}
+EachHolds (x ∷ xs) = Holds x × EachHolds xs
 
 abbrev pub figures : List Figure
 figures =

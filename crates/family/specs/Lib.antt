@@ -7,6 +7,7 @@ pub mod Modulus
 pub mod Made
 pub mod Power
 pub mod Dickson
+pub mod Kinds
 pub mod Refusals
 pub mod Figures
 pub mod Ladder

@@ -1,7 +1,7 @@
 //! Worked figures that anyone can check by hand, proved of the two families.
-ghost use Rattle.family.specs.Figures.{Each, figures};
+ghost use Rattle.family.specs.Figures.{EachHolds, figures};
 
 /// Each figure of the list holds.
 pub fn figures_hold()
-    ensures { Each figures }
+    ensures { EachHolds figures }
 {}

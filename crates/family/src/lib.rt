@@ -1,19 +1,20 @@
-//! Families of commuting functions: what a family is, and two of them, modular powers and Dickson polynomials.
+//! Families of commuting functions: modular powers, Dickson polynomials, and any other.
 #![tactic(auto)]
 
-mod commuting;
-mod dickson_polynomials;
+mod commuting_family;
+mod dickson;
+mod error;
+mod family_kind;
 mod figures;
 mod indices;
-mod modular_powers;
 mod modulus;
-mod refusing;
-mod residues;
-mod thinning;
+mod powers;
+mod rights;
 
-pub use commuting::CommutingFamily;
-pub use dickson_polynomials::Dickson;
+pub use commuting_family::CommutingFamily;
+pub use dickson::Dickson;
+pub use error::FamilyRefusal;
+pub use family_kind::FamilyKind;
 pub use figures::figures_hold;
-pub use modular_powers::Powers;
-pub use modulus::FamilyRefusal;
-pub use thinning::{has_right, thin_number};
+pub use powers::Powers;
+pub use rights::{has_right, thin_number};

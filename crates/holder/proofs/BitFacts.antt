@@ -4,25 +4,29 @@ use lib.Bits.{bit_and, and_step, and_shr, and_le_l}
 use lib.Pow.{pow-lt}
 use Rattle.std.proofs.lemmas.Bool.{eqb-true}
 use Rattle.std.proofs.lemmas.Bool.Decides.{nat_tests}
-use Rattle.family.specs.Rights.{has}
+use Rattle.family.specs.Rights.{has_right}
 use Rattle.family.proofs.Tables.{all_below, at_each, agree, agreed}
 use Rattle.family.proofs.FitFacts.{alone}
-use Rattle.holder.specs.Dropping.{all_but}
+use Rattle.holder.specs.Dropping.{all_rights_but}
 
 -- a right is in both sets
-pub has_and : (a b k : ℕ) → has (bit_and a b) k ≡ (has a k && has b k)
+pub has_and : (a b k : ℕ) → has_right (bit_and a b) k ≡ (has_right a k && has_right b k)
 has_and a b k = ap (λ x. eqb (x % 2) 1) (and_shr a b k) ∙ lowest (a / 2 ^ k) (b / 2 ^ k)
   where
     lowest : (x y : ℕ) → eqb (bit_and x y % 2) 1 ≡ (eqb (x % 2) 1 && eqb (y % 2) 1)
-    lowest x y = let e : bit_and x y ≡ bit_and (x / 2) (y / 2) * 2 + min (x % 2) (y % 2) = and_step x y in grind (arith, nat_tests)
+    lowest x y = let e : bit_and x y ≡ bit_and (x / 2) (y / 2) * 2 + min (x % 2) (y % 2) =
+        and_step x y in grind (arith, nat_tests)
 
 -- a right is in the complement
-pub has_not : (m k : ℕ) → m < 256 → k < 8 → has (255 - m) k ≡ not (has m k)
+pub has_not : (m k : ℕ) → m < 256 → k < 8 → has_right (255 - m) k ≡ not (has_right m k)
 has_not m k p q =
-    agreed (has (255 - m) k) (not (has m k))
-    (at_each (λ j. agree (has (255 - m) j) (not (has m j))) 8 (at_each (λ a. all_below (λ j. agree (has (255 - a) j) (not (has a j))) 8) 256 refl m p) k q)
+    agreed (has_right (255 - m) k) (not (has_right m k))
+    (at_each (λ j. agree (has_right (255 - m) j) (not (has_right m j))) 8
+    (at_each (λ a. all_below (λ j. agree (has_right (255 - a) j) (not (has_right a j))) 8) 256 refl
+    m p) k
+    q)
 
-pub has_all_but : (k j : ℕ) → k < 8 → j < 8 → has (all_but k) j ≡ not (eqb j k)
+pub has_all_but : (k j : ℕ) → k < 8 → j < 8 → has_right (all_rights_but k) j ≡ not (eqb j k)
 has_all_but k j p q = has_not (2 ^ k) j (pow-lt {i = k} {j = 8} p) q ∙ ap not (alone k j p q)
 
 -- a byte is the sum of its bits, so bytes with the same rights are equal
@@ -36,11 +40,13 @@ sum_like M M' (suc i) e =
     ap (λ b. sum_of M i + cond b (2 ^ i) 0) (e i (omega arith))
     ∙ ap (λ x. x + cond (M' i) (2 ^ i) 0) (sum_like M M' i (λ k h. e k (omega arith)))
 
-summed : (b : ℕ) → b < 256 → sum_of (has b) 8 ≡ b
-summed b h = eqb-true (sum_of (has b) 8) b (at_each (λ a. eqb (sum_of (has a) 8) a) 256 refl b h)
+summed : (b : ℕ) → b < 256 → sum_of (has_right b) 8 ≡ b
+summed b h =
+    eqb-true (sum_of (has_right b) 8) b (at_each (λ a. eqb (sum_of (has_right a) 8) a) 256 refl b h)
 
-pub same_byte : (a b : ℕ) → a < 256 → b < 256 → ((k : ℕ) → k < 8 → has a k ≡ has b k) → a ≡ b
-same_byte a b p q e = sym (summed a p) ∙ sum_like (has a) (has b) 8 e ∙ summed b q
+pub same_byte : (a b : ℕ) → a < 256 → b < 256 → ((k : ℕ) → k < 8 → has_right a k ≡ has_right b k)
+    → a ≡ b
+same_byte a b p q e = sym (summed a p) ∙ sum_like (has_right a) (has_right b) 8 e ∙ summed b q
 
 pub and_byte : (a b : ℕ) → a < 256 → bit_and a b < 256
 and_byte a b h = omega (arith, and_le_l a b)

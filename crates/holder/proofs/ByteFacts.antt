@@ -1,5 +1,5 @@
 -- Numbers as bytes: there and back, at every width.
-use Rattle.std.proofs.Common.{◌≡◌, ℕ, zero, suc, ◌+◌, ◌*◌, ◌/◌, ◌%◌, ◌^◌, ◌<◌, ◌≤◌, List, [], ◌∷◌, ◌++◌, length, get_or, drop, add-mul, mul_assoc, sym, refl, ap, ◌∙◌, subst, mod-lt, mod-eq_of_lt, arith, pow-add}
+use Rattle.std.proofs.Common.{◌≡◌, ℕ, zero, suc, ◌+◌, ◌*◌, ◌/◌, ◌%◌, ◌^◌, ◌<◌, ◌≤◌, List, [], ◌∷◌, ◌++◌, length, drop, add-mul, mul_assoc, sym, refl, ap, ◌∙◌, mod-lt, mod-eq_of_lt, arith, pow-add}
 use native.Mathlib.Nat.{mod-one}
 use Rattle.std.proofs.Math.Nat.{pow-le-pow_right}
 use Rattle.std.proofs.lemmas.List.{length_push}
@@ -9,7 +9,6 @@ use Rattle.std.proofs.lemmas.Nat.{mul-add-lt, shr_high, mod_low}
 use Rattle.std.specs.Int.{byte_at, bytes_high_first}
 use Rattle.family.specs.Squares.{pow-mul}
 use Rattle.holder.specs.Bytes.{number, bytes_of}
-use Rattle.holder.proofs.Spelled.{spelled}
 
 abbrev pub Bytes : List ℕ → Type 0
 Bytes bs = AllByRecursion (λ b. b < 256) bs
@@ -34,7 +33,8 @@ pub number_lt : (bs : List ℕ) → Bytes bs → number bs < 2 ^ (8 * length bs)
 number_lt [] h = omega arith
 number_lt (b ∷ bs) h =
     let k : ℕ = 8 * length bs in
-    let e : 2 ^ (8 * suc (length bs)) ≡ 2 ^ k * 256 = ap (λ x. 2 ^ x) (omega arith) ∙ pow-add 2 k 8 in
+    let e : 2 ^ (8 * suc (length bs)) ≡ 2 ^ k * 256 =
+    ap (λ x. 2 ^ x) (omega arith) ∙ pow-add 2 k 8 in
     rw e (mul-add-lt b (2 ^ k) (number bs) 256 h.0 (number_lt bs h.1))
 
 -- one byte more at the end
@@ -43,7 +43,8 @@ number_push [] b = omega arith
 number_push (x ∷ bs) b =
     let k : ℕ = 8 * length bs in
     let longer : 8 * length (bs ++ b ∷ []) ≡ k + 8 = let l = length_push bs b in omega (arith, l) in
-    let wide : 2 ^ (8 * length (bs ++ b ∷ [])) ≡ 2 ^ k * 256 = ap (λ i. 2 ^ i) longer ∙ pow-add 2 k 8 in
+    let wide : 2 ^ (8 * length (bs ++ b ∷ [])) ≡ 2 ^ k * 256 =
+    ap (λ i. 2 ^ i) longer ∙ pow-add 2 k 8 in
     let head : x * (2 ^ k * 256) ≡ x * 2 ^ k * 256 = sym (mul_assoc x (2 ^ k) 256) in
     let both = add-mul (x * 2 ^ k) (number bs) 256 in
     ap (λ y. x * y + number (bs ++ b ∷ [])) wide
@@ -53,7 +54,8 @@ number_push (x ∷ bs) b =
 pub room : (i : ℕ) → i < 7 → 2 ^ (8 * i) ≤ 2 ^ 48
 room i p = pow-le-pow_right {n = 2} (omega arith) {i = 8 * i} {j = 48} (omega arith)
 
-pub same_number : (xs ys : List ℕ) → length xs ≡ length ys → Bytes xs → Bytes ys → number xs ≡ number ys → xs ≡ ys
+pub same_number : (xs ys : List ℕ) → length xs ≡ length ys → Bytes xs → Bytes ys
+    → number xs ≡ number ys → xs ≡ ys
 same_number [] [] l p q e = refl
 same_number [] (y ∷ ys) l p q e = absurd (omega arith)
 same_number (x ∷ xs) [] l p q e = absurd (omega arith)
@@ -61,14 +63,20 @@ same_number (x ∷ xs) (y ∷ ys) l p q e =
     let k : ℕ = 8 * length xs in
     let m : length xs ≡ length ys = omega arith in
     let small : number ys < 2 ^ k = rw m (number_lt ys q.1) in
-    let whole : x * 2 ^ k + number xs ≡ y * 2 ^ k + number ys = e ∙ ap (λ l. y * 2 ^ (8 * l) + number ys) (sym m) in
-    let high : x ≡ y = sym (shr_high x k (number xs) (number_lt xs p.1)) ∙ ap (λ z. z / 2 ^ k) whole ∙ shr_high y k (number ys) small in
-    let low : number xs ≡ number ys = sym (mod_low x k (number xs) (number_lt xs p.1)) ∙ ap (λ z. z % 2 ^ k) whole ∙ mod_low y k (number ys) small in
+    let whole : x * 2 ^ k + number xs ≡ y * 2 ^ k + number ys =
+    e ∙ ap (λ l. y * 2 ^ (8 * l) + number ys) (sym m) in
+    let high : x ≡ y =
+    sym (shr_high x k (number xs) (number_lt xs p.1)) ∙ ap (λ z. z / 2 ^ k) whole
+    ∙ shr_high y k (number ys) small in
+    let low : number xs ≡ number ys =
+    sym (mod_low x k (number xs) (number_lt xs p.1)) ∙ ap (λ z. z % 2 ^ k) whole
+    ∙ mod_low y k (number ys) small in
     ap (λ z. z ∷ xs) high ∙ ap (λ zs. y ∷ zs) (same_number xs ys m p.1 q.1 low)
 
 bytes_of-number : (bs : List ℕ) → Bytes bs → bytes_of (length bs) (number bs) ≡ bs
 bytes_of-number bs h =
-    same_number (bytes_of (length bs) (number bs)) bs (length-bytes_of (length bs) (number bs)) (bytes_bytes_of (length bs) (number bs)) h
+    same_number (bytes_of (length bs) (number bs)) bs (length-bytes_of (length bs) (number bs))
+    (bytes_bytes_of (length bs) (number bs)) h
     (number-bytes_of (length bs) (number bs) ∙ mod-eq_of_lt (number_lt bs h))
 
 -- the library's bytes of a number, highest first, are these
@@ -82,14 +90,10 @@ high_first (suc w) n = λ i. byte_is w n i ∷ high_first w n i
 
 -- and the lowest of them come last
 pub lowest : (k w n : ℕ) → drop k (bytes_high_first (k + w) n) ≡ bytes_of w n
-lowest zero w n = let e : zero + w ≡ w = omega arith in ap (λ j. bytes_high_first j n) e ∙ high_first w n
-lowest (suc k) w n = let e : suc k + w ≡ suc (k + w) = omega arith in ap (λ j. drop (suc k) (bytes_high_first j n)) e ∙ lowest k w n
-
--- six elements that are bytes, one by one
-pub six_bytes : (bs : List ℕ) → length bs ≡ 6
-    → (get_or bs 0 0 < 256) × (get_or bs 1 0 < 256) × (get_or bs 2 0 < 256) × (get_or bs 3 0 < 256) × (get_or bs 4 0 < 256) × (get_or bs 5 0 < 256)
-    → Bytes bs
-six_bytes bs e h = subst Bytes (sym (spelled bs 6 e)) (h.0, (h.1, (h.2, (h.3, (h.4, (h.5, tt))))))
+lowest zero w n = let e : zero + w ≡ w = omega arith in
+    ap (λ j. bytes_high_first j n) e ∙ high_first w n
+lowest (suc k) w n = let e : suc k + w ≡ suc (k + w) = omega arith in
+    ap (λ j. drop (suc k) (bytes_high_first j n)) e ∙ lowest k w n
 
 -- the number of w bytes, in w bytes
 pub there_and_back : (w : ℕ) (bs : List ℕ) → length bs ≡ w → Bytes bs → bytes_of w (number bs) ≡ bs

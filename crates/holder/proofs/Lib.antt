@@ -1,5 +1,6 @@
 pub mod Spelled
 pub mod ByteFacts
+pub mod CheckFacts
 pub mod BitFacts
 pub mod RoundTrips
 pub mod ThinningFacts

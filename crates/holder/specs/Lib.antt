@@ -1,4 +1,5 @@
 pub mod Bytes
+pub mod Checks
 pub mod Layout
 pub mod Dropping
 pub mod Laws

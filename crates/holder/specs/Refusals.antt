@@ -1,8 +1,8 @@
 -- What the refusals of this layer come to.
 use Rattle.refusal.specs.declared.Refusal.{Refusal}
 use Rattle.refusal.specs.declared.Layer.TheVariants.{Holder}
-use Rattle.holder.specs.declared.refusals.HolderRefusal.{HolderRefusal}
-use Rattle.holder.specs.declared.refusals.HolderRefusal.TheVariants.{WrongLength, NoSuchRight, CheckTooLarge}
+use Rattle.holder.specs.declared.error.HolderRefusal.{HolderRefusal}
+use Rattle.holder.specs.declared.error.HolderRefusal.TheVariants.{WrongLength, NoSuchRight, CheckTooLarge}
 
 abbrev pub holder_refusal : HolderRefusal → Refusal
 holder_refusal WrongLength = record { number = 5; layer = Holder; place = 0 }

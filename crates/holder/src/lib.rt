@@ -1,12 +1,14 @@
-//! The holders' part: capabilities as sixteen bytes, and how a holder gives rights up without asking anyone.
+//! The holders' part: capabilities as sixteen bytes, and how a holder gives rights up alone.
 #![tactic(auto)]
 
+mod bytes;
 mod capability;
-mod giving_up;
+mod check;
+mod error;
 mod layout;
-mod numbers;
-mod refusals;
-mod refusing;
+mod object;
 
-pub use capability::{Capability, Check, Mask, Object, Port, Rights};
-pub use refusals::HolderRefusal;
+pub use capability::{Capability, Mask, Port, Rights};
+pub use check::Check;
+pub use error::HolderRefusal;
+pub use object::Object;

@@ -1,5 +1,5 @@
 pub mod Lists
-pub mod Same
+pub mod SameNames
 pub mod PlaceFacts
 pub mod SoundFacts
 pub mod NameBytes

@@ -1,5 +1,5 @@
 pub mod Records
-pub mod Every
+pub mod EachTwo
 pub mod Parts
 pub mod Placement
 pub mod Names

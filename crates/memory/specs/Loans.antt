@@ -1,6 +1,6 @@
 -- Memory lent again: the same four slices, whatever they hold by now.
 use Rattle.std.specs.Prelude.{◌≡◌}
-use Rattle.memory.specs.declared.lent.Memory.{Memory}
+use Rattle.memory.specs.declared.memory.Memory.{Memory}
 
 pub record SameLoan (before after : Memory) : Type 0 where
   pub files : after.files.ghost_name ≡ before.files.ghost_name

@@ -1,31 +1,29 @@
 -- Names of rows.
-use Rattle.std.specs.Prelude.{ℕ, Bool, true, false, cond, not, ◌&&◌, List, [], ◌∷◌, length, take, Some, None, Option, ◌==◌, nat_le}
-use Rattle.memory.specs.Every.{every}
-use Rattle.memory.specs.declared.records.Row.{Row}
+use Rattle.std.specs.Prelude.{◌≡◌, ℕ, Bool, if◌then◌else◌, not, ◌&&◌, List, length, take, Some, None, Option, ◌==◌, nat_le}
+use Rattle.std.specs.List.{list_all}
+use Rattle.std.specs.Str.{bytes_eq}
+use Rattle.memory.specs.declared.row.Row.{Row}
 
 -- a byte from 33 to 126, and not the slash
-abbrev pub name_byte : ℕ → Bool
-name_byte b = nat_le 33 b && (nat_le b 126 && not (b == 47))
+abbrev pub is_name_byte : ℕ → Bool
+is_name_byte b = nat_le 33 b && (nat_le b 126 && not (b == 47))
 
 -- 1 to 24 such bytes
-abbrev pub lawful_name : List ℕ → Bool
-lawful_name bs = nat_le 1 (length bs) && (nat_le (length bs) 24 && every name_byte bs)
+abbrev pub is_lawful_name : List ℕ → Bool
+is_lawful_name bs = nat_le 1 (length bs) && (nat_le (length bs) 24 && list_all is_name_byte bs)
 
 -- the bytes of a name, if they are a lawful one
-abbrev pub named : List ℕ → Option (List ℕ)
-named bs = cond (lawful_name bs) (Some bs) None
+abbrev pub checked_name : List ℕ → Option (List ℕ)
+checked_name bs = if is_lawful_name bs then Some bs else None
 
--- byte for byte the same
-abbrev pub same_bytes : List ℕ → List ℕ → Bool
-same_bytes [] [] = true
-same_bytes [] (y ∷ ys) = false
-same_bytes (x ∷ xs) [] = false
-same_bytes (x ∷ xs) (y ∷ ys) = x == y && same_bytes xs ys
+-- two names are the same: byte for byte
+unfoldable pub is_same_name : List ℕ → List ℕ → Bool
+is_same_name a b = bytes_eq a b
+
+-- the same in words: they are equal
+abbrev pub IsSameName : List ℕ → List ℕ → Type 0
+IsSameName a b = a ≡ b
 
 -- the name that a row holds, as many of its bytes as it says
 abbrev pub name_of : Row → List ℕ
 name_of row = take row.length row.name
-
--- two rows have the same name
-abbrev pub same_name : Row → Row → Bool
-same_name row row' = same_bytes (name_of row) (name_of row')

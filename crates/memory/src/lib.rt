@@ -1,20 +1,23 @@
-//! What a store keeps in memory that its caller brings: records, rows and an area, whether they are sound, and where a new file lies.
+//! The memory that a caller brings: records, rows and an area.
+//!
+//! It says whether memory is sound, and where a new file lies.
 #![tactic(auto)]
 
-mod keeping;
-mod lent;
-mod names;
-mod parts;
+mod directory_record;
+mod each_two;
+mod file_record;
+mod memory;
+mod name;
+mod part;
 mod placement;
-mod quantified;
-mod records;
-mod rows;
+mod row;
+mod row_test;
 mod soundness;
-mod wiping;
 
-pub use lent::Memory;
-pub use names::{Name, are_same_bytes, is_lawful_name};
+pub use directory_record::{DirectoryRecord, zero_directory};
+pub use file_record::{FileRecord, zero_file};
+pub use memory::{Memory, wipe};
+pub use name::{Name, are_same_names, is_lawful_name};
 pub use placement::place;
-pub use records::{DirectoryRecord, FileRecord, Masks, Row};
+pub use row::{Masks, Row, zero_row};
 pub use soundness::is_sound;
-pub use wiping::{wipe, zero_directory, zero_file, zero_row};

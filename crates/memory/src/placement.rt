@@ -1,13 +1,13 @@
 //! The lowest start for a new file.
 ghost use Rattle.std.specs.Prelude.{◌≡◌};
-ghost use Rattle.memory.specs.Placement.{Placed, placed};
+ghost use Rattle.memory.specs.Placement.{IsLowestStart, lowest_start};
 
-use crate::parts::Part;
-use crate::records::FileRecord;
+use crate::file_record::FileRecord;
+use crate::part::Part;
 
-/// The lowest start that is allowed, found from the left, behind each file that is in the way: the value from which both clauses of `place` follow.
+/// Tries start 0, then the end of each file in the way.
 fn first_clear(files: &[FileRecord], area: u64, length: u64) -> Option<u64>
-    ensures { result ≡ placed files.now area length }
+    ensures { result ≡ lowest_start files.now area length }
 {
     if length == 0 {
         return Some(0);
@@ -24,10 +24,10 @@ fn first_clear(files: &[FileRecord], area: u64, length: u64) -> Option<u64>
     None
 }
 
-/// The lowest start where a file of this length lies in the area and in no live file.
+/// The lowest start where a file of this length lies in the area and meets no live file.
 pub fn place(files: &[FileRecord], area: u64, length: u64) -> Option<u64>
-    ensures value { result ≡ placed files.now area length }
-    ensures words { Placed files.now area length result }
+    ensures value { result ≡ lowest_start files.now area length }
+    ensures words { IsLowestStart files.now area length result }
 {
     first_clear(files, area, length)
 }

@@ -1,4 +1,4 @@
-//! What every refusal of the product comes to: a number, the layer that refused, and a place.
+//! Refusals as plain values: a number, the layer that refused, and a place.
 #![tactic(auto)]
 
 ghost use Rattle.refusal.specs.Letters.{layer_letter};
@@ -6,7 +6,7 @@ ghost use Rattle.refusal.specs.declared.Refusal.{Refusal};
 ghost use Rattle.std.specs.Prelude.{◌≡◌};
 
 /// The part of the product that refused.
-#[derive(Clone, Copy, PartialEq, Eq, Debug)]
+#[derive(Clone, Copy, PartialEq, Eq, Hash, Debug)]
 pub enum Layer {
     /// A family of commuting functions.
     Family,
@@ -19,7 +19,7 @@ pub enum Layer {
 }
 
 impl Layer {
-    /// The letter that stands for the layer in a refusal line; a `char`, for lines that are shown and for those put into a buffer.
+    /// The letter of the layer in a refusal line.
     pub fn letter(self) -> char
         ensures { result ≡ layer_letter self }
     {
@@ -34,8 +34,8 @@ impl Layer {
 
 /// A refusal as a plain value. The refusal enum of each layer converts into it, by `From`.
 ///
-/// Number and place are those of the printed line, which each layer gives its own cases; so they stay numbers.
-#[derive(Clone, Copy, PartialEq, Eq, Debug)]
+/// Each layer gives its own cases the number and the place of the printed line.
+#[derive(Clone, Copy, PartialEq, Eq, Hash, Debug)]
 pub struct Refusal {
     pub number: u8,
     pub layer: Layer,

@@ -1,12 +1,11 @@
-//! Secrets of objects: the owner capability made from one, checks judged against one, and whether one is fit.
+//! Secrets of objects: their owner capabilities, the checks that they accept, and their fitness.
 #![tactic(auto)]
 
-mod acceptance;
-mod filling;
 mod fitness;
 mod scratch;
-mod secrets;
+mod secret;
+mod thinned_numbers;
 
 pub use fitness::{SETS, is_fit};
 pub use scratch::Scratch;
-pub use secrets::Secret;
+pub use secret::Secret;

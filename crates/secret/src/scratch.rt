@@ -1,7 +1,7 @@
 //! Borrowed working memory that is left all zeros.
 ghost use Rattle.std.specs.Prelude.{◌≡◌, length, replicate};
 
-/// Numbers lent for a while: at its end, on every way out, they are all zero, so no secret stays in them.
+/// Numbers lent for a while. They are zero on every way out, so no secret stays in them.
 pub struct Scratch<'a> {
     pub numbers: &'a mut [u64],
 }

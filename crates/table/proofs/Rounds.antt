@@ -16,7 +16,8 @@ module _ (next n : ℕ) where
   pub place_short : (s : ℕ) → next % n + s < n → place_on next n s ≡ next % n + s
   place_short s h = sym (mod-add-mod next n s) ∙ short n (next % n) s h
 
-  pub place_past : (s : ℕ) → n ≤ next % n + s → next % n + s - n < n → place_on next n s ≡ next % n + s - n
+  pub place_past : (s : ℕ) → n ≤ next % n + s → next % n + s - n < n
+      → place_on next n s ≡ next % n + s - n
   place_past s h l = sym (mod-add-mod next n s) ∙ past n (next % n) s h l
 
   pub place_below : (s : ℕ) → s < n → place_on next n s < n
@@ -33,16 +34,20 @@ module _ (next n : ℕ) where
   place_steps q h =
       let a : next % n < n = mod-lt next (omega arith) in
       ⊎_elim
-      (λ l. ap (place_on next n) (steps_round q a l) ∙ place_past (q + (n - next % n)) (omega arith) (omega arith) ∙ omega arith)
-      (λ l. ap (place_on next n) (steps_ahead q a l h) ∙ place_short (q - next % n) (omega arith) ∙ omega arith)
+      (λ l. ap (place_on next n) (steps_round q a l)
+      ∙ place_past (q + (n - next % n)) (omega arith) (omega arith) ∙ omega arith)
+      (λ l. ap (place_on next n) (steps_ahead q a l h) ∙ place_short (q - next % n) (omega arith)
+      ∙ omega arith)
       (cases_lt q (next % n))
 
   pub steps_place : (s : ℕ) → s < n → steps_to next n (place_on next n s) ≡ s
   steps_place s h =
       let a : next % n < n = mod-lt next (omega arith) in
       ⊎_elim
-      (λ l. ap (steps_to next n) (place_short s l) ∙ steps_ahead (next % n + s) a (omega arith) l ∙ omega arith)
-      (λ l. ap (steps_to next n) (place_past s l (omega arith)) ∙ steps_round (next % n + s - n) a (omega arith) ∙ omega arith)
+      (λ l. ap (steps_to next n) (place_short s l) ∙ steps_ahead (next % n + s) a (omega arith) l
+      ∙ omega arith)
+      (λ l. ap (steps_to next n) (place_past s l (omega arith))
+      ∙ steps_round (next % n + s - n) a (omega arith) ∙ omega arith)
       (cases_lt (next % n + s) n)
 
   pub steps_below : (q : ℕ) → q < n → steps_to next n q < n

@@ -1,10 +1,10 @@
-//! A table of records over a lent slice: it finds a live record by its place, claims a free place, and frees a place.
+//! Tables of records over lent slices: they find live records, claim free places, and free places.
 #![tactic(auto)]
 
-mod container;
-mod liveness;
-mod places;
+mod lent;
+mod record;
+mod table;
 
-pub use container::Table;
-pub use liveness::Record;
-pub use places::{claim, find};
+pub use lent::Lent;
+pub use record::Record;
+pub use table::Table;

@@ -5,7 +5,7 @@ pub returns : goal.returns
 returns g c =
     let own = c.args.family.now in
     record {
-      value = c.judged.ensures.value;
-      zeroed = c.judged.ensures.zeroed;
-      decides = decides_fit (g.F.CommutingFamily.modulus_of own) (g.F.CommutingFamily.function_of own) c.args.secret.value;
+      value = c.decide.ensures.value;
+      zeroed = c.decide.ensures.zeroed;
+      decides = decides_fit (g.F.CommutingFamily.meaning own) c.args.secret.value;
     }
