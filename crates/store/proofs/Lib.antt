@@ -1,9 +1,9 @@
-pub mod Steps
 pub mod Standing
-pub mod Admitting
-pub mod EntryFacts
-pub mod Deciding
-pub mod Telling
 pub mod Apart
+pub mod OrderFacts
+pub mod Admitting
+pub mod AdmittedFacts
+pub mod Telling
 pub mod Following
 pub mod LookFacts
+pub mod AnswerWords

@@ -1,30 +1,31 @@
-//! The store: files that never change and directories, kept in memory that its caller brings to each request.
+//! The store: files that never change, and directories. Its caller brings the memory that holds
+//! them to each request.
 //!
-//! Each request takes memory, the capability presented, a secret and a scratch as parameters of their own: memory and scratch are lent, the others given.
+//! Each request takes memory, the capability presented, a secret and a scratch as parameters of
+//! their own. Memory and scratch are lent, the others given.
 #![tactic(auto)]
 
-mod checking;
-mod creating;
-mod destroying;
-mod directories;
-mod entering;
-mod founding;
-mod granting;
-mod keeping;
-mod looking;
-mod naming;
-mod opening;
-mod reading;
-mod refusals;
-mod refusing;
-mod removing;
-mod requests;
-mod revoking;
-mod serving;
-mod tables;
+mod create_directory;
+mod create_file;
+mod destroy;
+mod enter;
+mod error;
+mod grant;
+mod look_up;
+mod open;
+mod order;
+mod places;
+mod read;
+mod remove;
+mod request;
+mod revoke;
+mod row;
+mod rule;
+mod serve;
+mod store;
 
 pub use admission::Gate;
-pub use keeping::Store;
-pub use opening::Opened;
-pub use refusals::StoreRefusal;
-pub use requests::{Answer, Request};
+pub use error::StoreRefusal;
+pub use open::Opened;
+pub use request::{Answer, Query, Request, Update};
+pub use store::Store;
