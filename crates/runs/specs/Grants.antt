@@ -1,11 +1,10 @@
 -- Grants: which there were, and which of them stand.
-use Rattle.std.specs.Prelude.{◌≡◌, ℕ, Bool, cond, ◌⊎◌, List, [], ◌∷◌, Some, None, Ok, Err, Option, Result, ◌==◌, nat_eq}
+use Rattle.std.specs.Prelude.{◌≡◌, ℕ, Bool, if◌then◌else◌, ◌⊎◌, List, [], ◌∷◌, Some, None, Option, ◌==◌, nat_eq}
 use Rattle.holder.specs.declared.capability.Capability.{Capability}
-use Rattle.secret.specs.declared.secrets.Secret.{Secret}
-use Rattle.admission.specs.Objects.{object_of}
-use Rattle.store.specs.Requests.{Ask, create_file, create_directory, read, size, look_up, walk, row, name, enter, remove, destroy, revoke, Told, granted, the_bytes, the_size, found, the_name, done}
-use Rattle.store.specs.declared.refusals.StoreRefusal.{StoreRefusal}
-use Rattle.runs.specs.History.{Event}
+use Rattle.secret.specs.declared.secret.Secret.{Secret}
+use Rattle.admission.specs.Objects.{object_number}
+use Rattle.store.specs.Requests.{create_file, create_directory, enter, remove, destroy, revoke, Ask, query, update, Told, granted}
+use Rattle.runs.specs.History.{Event, on_answer}
 
 -- the result of an open, create or revoke that was not refused, and the secret brought for it
 pub record Grant : Type 0 where
@@ -14,7 +13,7 @@ pub record Grant : Type 0 where
 
 -- the number of the object that is granted
 abbrev pub object_granted : Grant → ℕ
-object_granted g = object_of g.capability
+object_granted g = object_number g.capability
 
 -- what an event does to grants: it is one, it ends those of a set of objects, or neither
 pub data Consequence : Type 0 where
@@ -22,54 +21,42 @@ pub data Consequence : Type 0 where
   ends : (ℕ → Bool) → Consequence
   neither : Consequence
 
--- an unrefused request that brings a secret grants what it tells
-abbrev pub granting : Secret → Result Told StoreRefusal → Consequence
-granting secret (Ok (granted c)) = grants (record { capability = c; secret = secret })
-granting secret (Ok (the_bytes bs)) = neither
-granting secret (Ok (the_size n)) = neither
-granting secret (Ok (found c)) = neither
-granting secret (Ok (the_name bs)) = neither
-granting secret (Ok done) = neither
-granting secret (Err e) = neither
+-- a request that brings a secret grants what it tells
+abbrev pub grant_told : Secret → Told → Consequence
+grant_told secret (granted c) = grants (record { capability = c; secret = secret })
+grant_told secret other = neither
 
--- an unrefused request ends these objects
-abbrev pub ending : (ℕ → Bool) → Result Told StoreRefusal → Consequence
-ending objects (Ok told) = ends objects
-ending objects (Err e) = neither
+-- what an unrefused request does to grants; a query does nothing
+abbrev pub consequence : Capability → Ask → Told → Consequence
+consequence c (query q) told = neither
+consequence c (update (create_file bs secret)) told = grant_told secret told
+consequence c (update (create_directory secret)) told = grant_told secret told
+consequence c (update (enter bs entry masks)) told = neither
+consequence c (update (remove bs)) told = neither
+consequence c (update destroy) told = ends (λ o. nat_eq o (object_number c))
+consequence c (update (revoke secret)) told = grant_told secret told
 
-abbrev pub consequence : Capability → Ask → Result Told StoreRefusal → Consequence
-consequence c (create_file bs secret scratch) answer = granting secret answer
-consequence c (create_directory secret scratch) answer = granting secret answer
-consequence c read answer = neither
-consequence c size answer = neither
-consequence c (look_up bs) answer = neither
-consequence c (walk path) answer = neither
-consequence c (row n) answer = neither
-consequence c (name o) answer = neither
-consequence c (enter bs entry masks) answer = neither
-consequence c (remove bs) answer = neither
-consequence c destroy answer = ending (λ o. nat_eq o (object_of c)) answer
-consequence c (revoke secret scratch) answer = granting secret answer
-
+-- a refusal is of no consequence
 abbrev pub consequence_of : Event → Consequence
-consequence_of e = consequence e.call.presented e.call.ask e.answer
+consequence_of e = on_answer neither (consequence e.call.presented e.call.ask) e.answer
 
 -- g was granted: by the opening, or by an event since
-abbrev pub Granted : Grant → List Event → Grant → Type 0
-Granted first [] g = g ≡ first
-Granted first (e ∷ es) g = (consequence_of e ≡ grants g) ⊎ Granted first es g
+abbrev pub IsGranted : Grant → List Event → Grant → Type 0
+IsGranted first [] g = g ≡ first
+IsGranted first (e ∷ es) g = (consequence_of e ≡ grants g) ⊎ IsGranted first es g
 
 -- the grant that stands for an object, once a consequence came upon the one that stood
-abbrev pub overturned : Consequence → ℕ → Option Grant → Option Grant
-overturned (grants g) o old = cond (o == object_granted g) (Some g) old
-overturned (ends objects) o old = cond (objects o) None old
-overturned neither o old = old
+abbrev pub grant_after : Consequence → ℕ → Option Grant → Option Grant
+grant_after (grants g) o old = if o == object_granted g then Some g else old
+grant_after (ends objects) o old = if objects o then None else old
+grant_after neither o old = old
 
--- the grant that stands for an object: the last one of its number, unless the object was ended since
-abbrev pub standing : Grant → List Event → ℕ → Option Grant
-standing first [] o = overturned (grants first) o None
-standing first (e ∷ es) o = overturned (consequence_of e) o (standing first es o)
+-- the grant that stands for an object: the last one of its number, unless the object was ended
+-- since
+abbrev pub standing_grant : Grant → List Event → ℕ → Option Grant
+standing_grant first [] o = grant_after (grants first) o None
+standing_grant first (e ∷ es) o = grant_after (consequence_of e) o (standing_grant first es o)
 
 -- g stands
 abbrev pub Stands : Grant → List Event → Grant → Type 0
-Stands first es g = standing first es (object_granted g) ≡ Some g
+Stands first es g = standing_grant first es (object_granted g) ≡ Some g

@@ -1,22 +1,22 @@
--- A run of a store: requests one after the other, each over what the one before left, and what they were answered. The newest come first.
-use Rattle.std.specs.Prelude.{List, [], ◌∷◌, Result}
+-- A run of a store: requests one after the other, each over what the one before left, and what they
+-- were answered. The newest come first.
+use Rattle.std.specs.Prelude.{ℕ, List, [], ◌∷◌, Ok, Err, Result}
 use Rattle.holder.specs.declared.capability.Capability.{Capability}
-use Rattle.memory.specs.Soundness.{Content}
-use Rattle.store.specs.Changes.{Outcome}
-use Rattle.store.specs.Kept.{Kept}
+use Rattle.store.specs.Outcomes.{Outcome}
 use Rattle.store.specs.Requests.{Ask, Told}
-use Rattle.store.specs.Served.{served}
-use Rattle.store.specs.declared.refusals.StoreRefusal.{StoreRefusal}
+use Rattle.store.specs.Serve.{request_outcome}
+use Rattle.store.specs.State.{State}
+use Rattle.store.specs.declared.error.StoreRefusal.{StoreRefusal}
 
--- what the store keeps, and what memory holds
-pub record State : Type 0 where
-  pub kept : Kept
-  pub memory : Content
-
--- a request with the capability that it presents
+-- a request with the capability that it presents, and the scratch that lies beside it
 pub record Call : Type 0 where
   pub presented : Capability
   pub ask : Ask
+  pub scratch : List ℕ
+
+-- a call that presents a capability
+abbrev pub call_with : Capability → Ask → List ℕ → Call
+call_with c ask scratch = record { presented = c; ask = ask; scratch = scratch }
 
 -- a request and its answer
 pub record Event : Type 0 where
@@ -24,22 +24,23 @@ pub record Event : Type 0 where
   pub answer : Result Told StoreRefusal
 
 -- what a request comes to in a state: the very outcome that the store's calls promise
-abbrev pub outcome_in : State → Capability → Ask → Outcome
-outcome_in s c ask = served s.kept s.memory c ask
+abbrev pub outcome_in : State → Call → Outcome
+outcome_in s call = request_outcome s call.presented call.ask call.scratch
 
-abbrev pub answer_in : State → Capability → Ask → Result Told StoreRefusal
-answer_in s c ask = (outcome_in s c ask).answer
+abbrev pub answer_in : State → Call → Result Told StoreRefusal
+answer_in s call = (outcome_in s call).answer
 
--- the state that an outcome leaves
-abbrev pub left : Outcome → State
-left o = record { kept = o.kept; memory = o.memory }
+-- what follows from an answer: a refusal leaves it as it is
+abbrev pub on_answer : {A : Type 0} → A → (Told → A) → Result Told StoreRefusal → A
+on_answer old new (Ok told) = new told
+on_answer old new (Err e) = old
 
 -- the state after a list of requests
-unfoldable pub after : State → List Call → State
-after s [] = s
-after s (r ∷ rs) = left (outcome_in (after s rs) r.presented r.ask)
+unfoldable pub state_after : State → List Call → State
+state_after s [] = s
+state_after s (r ∷ rs) = (outcome_in (state_after s rs) r).after
 
 -- what happened on the way there
 unfoldable pub history : State → List Call → List Event
 history s [] = []
-history s (r ∷ rs) = record { call = r; answer = answer_in (after s rs) r.presented r.ask } ∷ history s rs
+history s (r ∷ rs) = record { call = r; answer = answer_in (state_after s rs) r } ∷ history s rs

@@ -1,4 +1,4 @@
-pub mod Seen
+pub mod Views
 pub mod Staying
 pub mod RequestLaws
 pub mod History

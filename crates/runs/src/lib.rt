@@ -1,7 +1,7 @@
 //! The law of runs, on the call that opens a store.
 #![tactic(auto)]
 
-mod starting;
+mod opening;
 
 pub use admission::Gate;
-pub use starting::open;
+pub use opening::open;
