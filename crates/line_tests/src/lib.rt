@@ -1,10 +1,6 @@
-//! Examples of words, steps, tickets and the restricting command, through what these crates show to others.
+//! Examples of lines, texts and tickets, through what these crates show to others.
 #![tactic(auto)]
 
-#[cfg(test)]
-mod commands;
-#[cfg(test)]
-mod lines;
 #[cfg(test)]
 mod readings;
 #[cfg(test)]

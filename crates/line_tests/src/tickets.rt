@@ -1,7 +1,7 @@
 //! Every kind of answer line, buffers at the edge, and tickets that are handed back.
+use lines::{Answer, Desk, Kept, LineRefusal};
 use refusal::{Layer, Refusal};
 use std::str;
-use ticket::{Answer, Desk, Kept, LineRefusal};
 
 /// A refusal by `layer`.
 fn refused(number: u8, layer: Layer, place: u8) -> Answer<'static> {

@@ -18,7 +18,10 @@ own = numerals_by_value _ tells_all_ascii_digits
 -- just "0" begins with a zero
 no_zero : (n : ℕ) → n < 10 ^ 15 → (length (decimal n) ≡ 1) ⊎ (48 < get_or (decimal n) 0 0)
 no_zero n h =
-    elim (cases_lt 0 n) [ inl some ↦ inr (first_decimal n some (omega arith)) | inr none ↦ inl (ap length (decimal_digit n (omega arith))) ]
+    elim (cases_lt 0 n) [
+      | inl some ↦ inr (first_decimal n some (omega arith))
+      | inr none ↦ inl (ap length (decimal_digit n (omega arith)))
+    ]
 
 -- a number that is written is read
 pub written_read : (n : ℕ) → n < 10 ^ 15 → read_decimal (decimal n) ≡ Some n
@@ -47,25 +50,29 @@ read_written word r gives n e =
 digits_ascii : (word : List ℕ) → all_ascii_digits word ≡ true → IsAscii word
 digits_ascii [] h i = omega arith
 digits_ascii (c ∷ rest) h zero = grind (arith, nat_tests)
-digits_ascii (c ∷ rest) h (suc i) = digits_ascii rest (and_parts (is_ascii_digit c) (all_ascii_digits rest) h).1 i
+digits_ascii (c ∷ rest) h (suc i) =
+    digits_ascii rest (and_parts (is_ascii_digit c) (all_ascii_digits rest) h).1 i
 
 -- so what is no text is no decimal
 pub unread_bytes : (word : List ℕ) → (IsUtf8 word → ⊥) → None ≡ read_decimal word
 unread_bytes word h =
     elim (cases_Bool (all_ascii_digits word)) [
       | inl digits ↦ absurd (h (IsUtf8-from_ascii word (digits_ascii word digits)))
-      | inr other ↦ let test : is_decimal word ≡ false = grind (arith, nat_tests) in sym (cond-false _ _ _ test)
+      | inr other ↦ let test : is_decimal word ≡ false = grind (arith, nat_tests) in
+          sym (cond-false _ _ _ test)
     ]
 
 -- what `parse` makes of a word with no plus and no needless zero in front
 pub read_parsed :
     {E : Type 0} (word : List ℕ) (r : Result ℕ E) → ParsesUnsigned 64 10 word r → length word ≤ 15 →
-    (get_or word 0 0 ≡ 43 → ⊥) → (1 < length word → get_or word 0 0 ≡ 48 → ⊥) → result_ok r ≡ read_decimal word
+    (get_or word 0 0 ≡ 43 → ⊥) → (1 < length word → get_or word 0 0 ≡ 48 → ⊥)
+    → result_ok r ≡ read_decimal word
 read_parsed {E} word r h short plus front = by_result r (parse_plain own 64 word r h plus)
   where
     by_result :
         (r : Result ℕ E) →
-        OkIff r ((all_ascii_digits word ≡ true) × (0 < length word) × (digits_value 10 word < 2 ^ 64)) (digits_value 10 word) →
+        OkIff r ((all_ascii_digits word ≡ true) × (0 < length word)
+        × (digits_value 10 word < 2 ^ 64)) (digits_value 10 word) →
         result_ok r ≡ read_decimal word
     by_result (Ok x) known =
         let digits : all_ascii_digits word ≡ true = known.0.0 in

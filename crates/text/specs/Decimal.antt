@@ -1,5 +1,6 @@
 -- A number as a word of decimal digits.
-use Rattle.std.specs.Prelude.{ℕ, Bool, cond, not, ◌&&◌, ◌||◌, List, length, Some, None, Option, ◌==◌, nat_le, slice_index}
+use Rattle.std.specs.Prelude.{ℕ, Bool, if◌then◌else◌, not, ◌&&◌, ◌||◌, List, length, Some, None, Option}
+use Rattle.std.specs.Prelude.{◌==◌, nat_le, slice_index}
 use Rattle.std.specs.Str.Parse.{digits_value}
 use Rattle.std.specs.Str.{all_ascii_digits}
 
@@ -11,4 +12,4 @@ is_decimal word =
 
 -- the number that such a word writes
 abbrev pub read_decimal : List ℕ → Option ℕ
-read_decimal word = cond (is_decimal word) (Some (digits_value 10 word)) None
+read_decimal word = if is_decimal word then Some (digits_value 10 word) else None

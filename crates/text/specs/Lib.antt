@@ -1,4 +1,5 @@
 pub mod Decimal
 pub mod Hex
+pub mod Lines
 pub mod Put
 pub mod RefusalLine

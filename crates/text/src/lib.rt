@@ -1,4 +1,4 @@
-//! Words of a command line or a script, read and written: hexadecimal, decimals, and the refusal line.
+//! Words of a command line or a script, read and written: hexadecimal, decimals, refusal lines.
 #![tactic(auto)]
 
 mod bytes;

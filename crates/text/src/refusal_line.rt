@@ -1,6 +1,6 @@
 //! The line that says a refusal: `no NUMBER LAYER PLACE`.
 ghost use Rattle.std.specs.Prelude.{◌≡◌, Some};
-ghost use Rattle.text.specs.Put.{after, end_of};
+ghost use Rattle.text.specs.Put.{buffer_after, end_of};
 ghost use Rattle.text.specs.RefusalLine.{refusal_line};
 
 use crate::bytes::put;
@@ -14,10 +14,10 @@ const MOST: usize = 12;
 
 /// Writes the line that says `refusal`, with no line feed, as `put` writes bytes.
 pub fn put_refusal(out: &mut [u8], at: usize, refusal: Refusal) -> Option<usize>
-    ensures gives { result ≡ end_of out.old at (refusal_line refusal) }
-    ensures leaves { out.new ≡ after out.old at (refusal_line refusal) }
+    ensures end { result ≡ end_of out.old at (refusal_line refusal) }
+    ensures buffer { out.new ≡ buffer_after out.old at (refusal_line refusal) }
 {
-    // By its parts: `Display` promises the text, and not that it is written wherever there is room.
+    // By its parts: `Display` promises the text, but not that it writes wherever there is room.
     let mut digits = Buffer::new();
     let mut line: ArrayString<MOST> = ArrayString::new();
     line.try_push_str("no ").ok()?;

@@ -14,9 +14,9 @@ returns-in_err-end c =
     let bytes = c.args.bytes.now in
     let size = length-hex_text bytes in
     record {
-      gives = search rules;
-      leaves = search rules;
-      back = written_read bytes (λ i. omega (arith, c.type_inv.bytes i));
+      end = search rules;
+      buffer = search rules;
+      read_again = written_read bytes (λ i. omega (arith, c.type_inv.bytes i));
     }
 
 pub returns : goal.returns
@@ -31,9 +31,11 @@ returns c =
     let room = chosen _ _ _ gives in
     let end = room.1 in
     record {
-      gives = gives;
-      leaves =
-          put_mid-paste at _ out _ (hex_text bytes) (length (hex_text bytes)) written (omega arith) refl
-          ∙ paste_all out at (hex_text bytes) (length (hex_text bytes)) refl ∙ sym (cond-true _ _ _ room.0);
-      back = written_read bytes (λ i. omega (arith, c.type_inv.bytes i));
+      end = gives;
+      buffer =
+          put_mid-paste at _ out _ (hex_text bytes) (length (hex_text bytes)) written (omega arith)
+          refl
+          ∙ paste_all out at (hex_text bytes) (length (hex_text bytes)) refl
+          ∙ sym (cond-true _ _ _ room.0);
+      read_again = written_read bytes (λ i. omega (arith, c.type_inv.bytes i));
     }

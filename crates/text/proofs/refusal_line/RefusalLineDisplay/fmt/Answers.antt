@@ -20,8 +20,10 @@ returns-clause-writes g c = λ p ok.
     let n : List ℕ = decimal refusal.number in
     let l : ℕ = layer_letter refusal.layer in
     let place : List ℕ = decimal refusal.place in
-    let letter : encode c.letter-layer.result ≡ l ∷ [] = ap encode c.letter-layer.ensures ∙ encode_ascii l (small refusal.layer) in
-    let text : 110 ∷ 111 ∷ 32 ∷ (n ++ (32 ∷ (encode c.letter-layer.result ++ (32 ∷ place)))) ≡ refusal_line refusal =
+    let letter : encode c.letter-layer.result ≡ l ∷ [] =
+    ap encode c.letter-layer.ensures ∙ encode_ascii l (small refusal.layer) in
+    let text : 110 ∷ 111 ∷ 32 ∷ (n ++ (32 ∷ (encode c.letter-layer.result ++ (32 ∷ place))))
+    ≡ refusal_line refusal =
     ap (λ t. 110 ∷ 111 ∷ 32 ∷ (n ++ (32 ∷ (t ++ (32 ∷ place))))) letter
     ∙ ap (λ t. 110 ∷ 111 ∷ 32 ∷ t) (sym (append_assoc n (32 ∷ l ∷ 32 ∷ []) place)) in
     has_written_of_eq g.W.Write.write_str_gives _ _ _ _ text (c.write.ensures.writes p ok)

@@ -1,0 +1,9 @@
+pub mod AnswerFacts
+pub mod ApartFacts
+pub mod ChainFacts
+pub mod CursorFacts
+pub mod FaultFacts
+pub mod LineFacts
+pub mod SpelledFacts
+pub mod ValueFacts
+pub mod WordFacts

@@ -1,0 +1,13 @@
+pub mod Lines
+pub mod Cursor
+pub mod Words
+pub mod Forms
+pub mod Verbs
+pub mod Steps
+pub mod Reading
+pub mod Spelled
+pub mod Faults
+pub mod AnswerLine
+pub mod Refusals
+pub mod Tickets
+pub mod ToldApart

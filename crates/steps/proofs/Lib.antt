@@ -1,4 +1,0 @@
-pub mod SpelledFacts
-pub mod TakenFacts
-pub mod RuleFacts
-pub mod FaultFacts

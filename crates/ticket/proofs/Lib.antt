@@ -1,2 +1,0 @@
-pub mod ApartFacts
-pub mod LineFacts

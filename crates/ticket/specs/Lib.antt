@@ -1,4 +1,0 @@
-pub mod AnswerLine
-pub mod Refusals
-pub mod Tickets
-pub mod ToldApart
