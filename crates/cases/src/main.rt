@@ -1,10 +1,12 @@
-//! cases: runs the scripts that stand in its input one behind the other, each over a store of its own.
+//! cases: runs the scripts of its input, one behind the other, each over a store of its own.
 //!
-//! Before each script stands a line, 'script NAME LENGTH', with the count of its bytes; the line 'script NAME' is printed before its answers.
+//! A line 'script NAME LENGTH', with the count of its bytes, stands before each script. The program
+//! prints the line 'script NAME' before its answers.
 #![tactic(auto)]
 
-use anyhow::Context;
-use console::{Room, run};
+use anyhow::{Context, anyhow};
+use console::run;
+use room::Room;
 use std::io::{self, BufRead, BufReader, BufWriter, Read, Write};
 use text::read_decimal;
 
@@ -38,7 +40,7 @@ fn run_case<R: Read + Drop, W: Write>(
 fn main(rt: HostRuntime) -> anyhow::Result<()> {
     let mut input = BufReader::new(rt.alloc(), rt.reader())?;
     let mut output = BufWriter::new(rt.alloc(), io::writer(&rt))?;
-    let mut room = Room::new(rt.alloc())?;
+    let mut room = Room::new(rt.alloc()).map_err(|_| anyhow!("no memory for the store"))?;
     let mut header = String::new(rt.alloc());
     for _ in 0..u64::MAX {
         header.clear();

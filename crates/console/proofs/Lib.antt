@@ -1,4 +1,3 @@
 pub mod LawFacts
 pub mod LineFacts
 pub mod PrintFacts
-pub mod RoomFacts

@@ -2,4 +2,3 @@ pub mod LineLaw
 pub mod Lines
 pub mod Printing
 pub mod Reading
-pub mod Rooms

@@ -1,5 +1,6 @@
 //! Scripts from memory to memory: lines at their edges, and readers that give few bytes at a time.
-use crate::{Room, RunError, run};
+use crate::{RunError, run};
+use room::Room;
 use std::io::{self, BufReader, ErrorKind, Read, Write};
 use std::test::Fail;
 
@@ -8,21 +9,19 @@ const STORE: &[u8] = b"store P 2147483647 50554d503031 7\n";
 const OWNER: &[u8] = b"ok 50554d503031000000ff000000000007\n";
 
 /// What is answered to a store line and the script behind it, read so many bytes at a time.
-fn answers(rt: &HostRuntime, ahead: usize, script: &[u8]) -> Result<Vec<u8>, RunError> {
+fn answers(rt: &HostRuntime, ahead: usize, script: &[u8]) -> Result<Vec<u8>, Fail> {
     let alloc = rt.alloc();
     let mut whole = Vec::new(alloc);
     whole.extend_from_slice(STORE)?;
     whole.extend_from_slice(script)?;
-    let mut input = BufReader::with_capacity(alloc, ahead, whole.as_slice()).map_err(
-        RunError::Input,
-    )?;
+    let mut input = BufReader::with_capacity(alloc, ahead, whole.as_slice())?;
     let mut output = Vec::new(alloc);
     run(&mut input, &mut output, &mut Room::new(alloc)?)?;
     Ok(output)
 }
 
 /// Whether the owner capability and these lines are answered, however few bytes are read at a time.
-fn is_answered(rt: &HostRuntime, script: &[u8], lines: &[u8]) -> Result<bool, RunError> {
+fn is_answered(rt: &HostRuntime, script: &[u8], lines: &[u8]) -> Result<bool, Fail> {
     for ahead in [1usize, 2, 7, 256, 8192] {
         let output = answers(rt, ahead, script)?;
         if output.strip_prefix(OWNER) != Some(lines) {
@@ -33,7 +32,7 @@ fn is_answered(rt: &HostRuntime, script: &[u8], lines: &[u8]) -> Result<bool, Ru
 }
 
 #[test]
-fn only_a_line_feed_ends_a_line(rt: HostRuntime) -> Result<(), RunError> {
+fn only_a_line_feed_ends_a_line(rt: HostRuntime) -> Result<(), Fail> {
     assert!(rt; is_answered(&rt, b"", b"")?);
     assert!(rt;
         is_answered(&rt, b"size A0", b"no 14 S 0\n")?,
@@ -58,7 +57,7 @@ fn only_a_line_feed_ends_a_line(rt: HostRuntime) -> Result<(), RunError> {
 }
 
 /// A line that files a text of this many bytes, all of them 'x'.
-fn filing(rt: &HostRuntime, count: usize) -> Result<Vec<u8>, RunError> {
+fn filing(rt: &HostRuntime, count: usize) -> Result<Vec<u8>, Fail> {
     let alloc = rt.alloc();
     let mut line = Vec::new(alloc);
     line.extend_from_slice(b"file A0 9 ")?;
@@ -70,7 +69,7 @@ fn filing(rt: &HostRuntime, count: usize) -> Result<Vec<u8>, RunError> {
 }
 
 #[test]
-fn lines_of_255_bytes_are_taken(rt: HostRuntime) -> Result<(), RunError> {
+fn lines_of_255_bytes_are_taken(rt: HostRuntime) -> Result<(), Fail> {
     let longest = filing(&rt, 242)?;
     let answer = b"ok 50554d503031000001ff000000000009\nok 242\n";
     assert!(rt; is_answered(&rt, &longest, answer)?, "255 bytes");
@@ -85,7 +84,7 @@ fn lines_of_255_bytes_are_taken(rt: HostRuntime) -> Result<(), RunError> {
 }
 
 #[test]
-fn a_refused_first_line_ends_the_script(rt: HostRuntime) -> Result<(), RunError> {
+fn a_refused_first_line_ends_the_script(rt: HostRuntime) -> Result<(), Fail> {
     let alloc = rt.alloc();
     let mut room = Room::new(alloc)?;
     for (script, lines) in [
@@ -105,7 +104,7 @@ fn a_refused_first_line_ends_the_script(rt: HostRuntime) -> Result<(), RunError>
             b"ok 50554d503031000000ff000000000004\nno 30 L 1\n",
         ),
     ] {
-        let mut input = BufReader::new(alloc, script).map_err(RunError::Input)?;
+        let mut input = BufReader::new(alloc, script)?;
         let mut output = Vec::new(alloc);
         run(&mut input, &mut output, &mut room)?;
         assert!(rt; output.as_slice() == lines);
@@ -131,11 +130,11 @@ impl Write for Flushed {
 }
 
 #[test]
-fn answers_are_flushed_where_no_input_is_at_hand(rt: HostRuntime) -> Result<(), RunError> {
+fn answers_are_flushed_where_no_input_is_at_hand(rt: HostRuntime) -> Result<(), Fail> {
     let alloc = rt.alloc();
     let script = b"store P 2147483647 50554d503031 7\nsize A0\nsize A0\n".as_slice();
     for (ahead, times) in [(1usize, 4u64), (8192, 2)] {
-        let mut input = BufReader::with_capacity(alloc, ahead, script).map_err(RunError::Input)?;
+        let mut input = BufReader::with_capacity(alloc, ahead, script)?;
         let mut output = Flushed { times: 0 };
         run(&mut input, &mut output, &mut Room::new(alloc)?)?;
         assert_eq!(rt; output.times, times);
@@ -144,14 +143,12 @@ fn answers_are_flushed_where_no_input_is_at_hand(rt: HostRuntime) -> Result<(), 
 }
 
 #[test]
-fn lines_behind_a_refused_first_one_are_left_in_the_reader(
-    rt: HostRuntime,
-) -> Result<(), RunError> {
+fn lines_behind_a_refused_first_one_are_left_in_the_reader(rt: HostRuntime) -> Result<(), Fail> {
     let alloc = rt.alloc();
     let mut room = Room::new(alloc)?;
     for ahead in [1usize, 8192] {
         let script = b"size A0\nsize A0\n".as_slice();
-        let mut input = BufReader::with_capacity(alloc, ahead, script).map_err(RunError::Input)?;
+        let mut input = BufReader::with_capacity(alloc, ahead, script)?;
         for lines in [b"no 30 L 1\n".as_slice(), b"no 30 L 1\n", b""] {
             let mut output = Vec::new(alloc);
             run(&mut input, &mut output, &mut room)?;
@@ -177,10 +174,10 @@ impl Read for Broken<'_> {
 }
 
 #[test]
-fn whole_lines_before_a_failed_read_are_answered(rt: HostRuntime) -> Result<(), RunError> {
+fn whole_lines_before_a_failed_read_are_answered(rt: HostRuntime) -> Result<(), Fail> {
     let alloc = rt.alloc();
     let bytes = b"store P 2147483647 50554d503031 7\nsize A0\nsize A0".as_slice();
-    let mut input = BufReader::new(alloc, Broken { bytes }).map_err(RunError::Input)?;
+    let mut input = BufReader::new(alloc, Broken { bytes })?;
     let mut output = Vec::new(alloc);
     let ended = run(&mut input, &mut output, &mut Room::new(alloc)?);
     assert!(rt; matches!(ended, Err(RunError::Input(_))));
@@ -203,9 +200,9 @@ impl Write for Full {
 }
 
 #[test]
-fn a_failed_write_is_told_as_such(rt: HostRuntime) -> Result<(), RunError> {
+fn a_failed_write_is_told_as_such(rt: HostRuntime) -> Result<(), Fail> {
     let alloc = rt.alloc();
-    let mut input = BufReader::new(alloc, b"size A0\n".as_slice()).map_err(RunError::Input)?;
+    let mut input = BufReader::new(alloc, b"size A0\n".as_slice())?;
     let ended = run(&mut input, &mut Full, &mut Room::new(alloc)?);
     assert!(rt; matches!(ended, Err(RunError::Output(_))));
     Ok(())

@@ -13,7 +13,8 @@ pub(crate) enum Command {
 }
 
 impl Command {
-    /// The command of these words: help is asked for alone, and any other word that begins with a dash is no file's name.
+    /// The command of these words. Help is asked for alone; any other word that begins with a dash
+    /// is no file's name.
     pub(crate) fn of<W: AsStr>(words: &[W]) -> Command {
         match words {
             [word] if word.as_str() == "--help" => Command::Help,

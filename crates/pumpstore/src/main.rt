@@ -6,8 +6,9 @@ mod command;
 mod tests;
 
 use crate::command::Command;
-use anyhow::Context;
-use console::{Room, run};
+use anyhow::{Context, anyhow};
+use console::run;
+use room::Room;
 use std::convert::AsStr;
 use std::env;
 use std::fs::File;
@@ -58,7 +59,7 @@ fn run_files<W: AsStr>(rt: &HostRuntime, names: &[W], room: &mut Room) -> anyhow
 
 /// Runs the scripts of these files, or that of standard input where there are none.
 fn run_scripts(rt: &HostRuntime, names: &[String]) -> anyhow::Result<()> {
-    let mut room = Room::new(rt.alloc())?;
+    let mut room = Room::new(rt.alloc()).map_err(|_| anyhow!("no memory for the store"))?;
     if names.is_empty() {
         return run_from(rt, rt.reader(), &mut room);
     }

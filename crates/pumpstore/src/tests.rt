@@ -1,7 +1,7 @@
 //! Words behind the program's name, and files that cannot be read.
 use crate::command::Command;
 use crate::run_files;
-use console::Room;
+use room::Room;
 use std::test::Fail;
 
 #[test]

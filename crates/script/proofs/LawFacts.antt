@@ -1,124 +1,142 @@
 -- The laws of scripts.
-use Rattle.std.proofs.Common.{◌≡◌, ◌≢◌, ℕ, suc, false, Bool, cond, List, [], ◌∷◌, ◌++◌, length, get_or, Some, None, Option, Ok, Err, Result, refl, sym, ap, ◌∙◌}
+use Rattle.std.proofs.Common.{◌≡◌, ◌≢◌, ℕ, suc, List, [], ◌∷◌, length, get_or, Some, None, Option, Ok, Err, Result, refl, sym, ap, ◌∙◌}
 use Rattle.std.proofs.lemmas.List.{get_or-set_other}
 use Rattle.refusal.specs.Chains.{refused_as}
 use Rattle.refusal.specs.declared.Refusal.{Refusal}
 use Rattle.refusal.proofs.ChainFacts.{never_ok}
 use Rattle.holder.specs.declared.capability.Capability.{Capability}
-use Rattle.memory.specs.Soundness.{Content}
-use Rattle.store.specs.Changes.{Change, settled}
-use Rattle.store.specs.Kept.{Kept}
-use Rattle.store.specs.Refusals.{store_refusal}
-use Rattle.store.specs.Requests.{Ask, Told, granted, the_bytes, the_size, found, the_name, done}
-use Rattle.store.specs.Served.{decided, scratch_after}
-use Rattle.store.specs.declared.refusals.StoreRefusal.{StoreRefusal}
-use Rattle.steps.specs.Asked.{Asked}
-use Rattle.ticket.specs.declared.refusals.LineRefusal.{LineRefusal}
-use Rattle.words.specs.declared.forms.Pocket.{Pocket}
+use Rattle.store.specs.Outcomes.{Change, outcome_by}
+use Rattle.store.specs.Order.{is_sized, result_of}
+use Rattle.store.specs.Requests.{Told, query, update}
+use Rattle.store.specs.Rules.{rule_of}
+use Rattle.store.specs.Serve.{change_at, scratch_after}
+use Rattle.store.specs.declared.error.StoreRefusal.{StoreRefusal}
+use Rattle.lines.specs.Reading.{task_in}
+use Rattle.lines.specs.Refusals.{bad_line}
+use Rattle.lines.specs.Steps.{TaskValues}
+use Rattle.lines.specs.declared.error.LineRefusal.{LineRefusal}
+use Rattle.lines.specs.declared.pocket.Pocket.{Pocket}
 use Rattle.script.specs.AnswerLines.{told_line}
-use Rattle.script.specs.Carrying.{State, Turn, carried, carried_out, dropping, filled, filling, first_held, performed, second_held, state, then_turn}
+use Rattle.script.specs.Deeds.{Deed, ask, deed_of, drop, give}
 use Rattle.script.specs.Laws.{InOrder, LawsOfScripts, OneForEach, OnlyTheTarget, RefusedChangesNothing, RefusedFirst}
-use Rattle.script.specs.Opening.{begun_by}
-use Rattle.script.specs.Places.{in_place}
-use Rattle.script.specs.Scripts.{Stage, before, during, closed, answers, behind, first_passage, passed}
-use Rattle.script.specs.Wanting.{named_beside, presented, request, target}
+use Rattle.script.specs.Pockets.{capability_in}
+use Rattle.script.specs.Scripts.{after_first, answers, before, closed, during, outcome_at, stage_after}
+use Rattle.script.specs.Sessions.{LineOutcome, SessionState}
+use Rattle.script.specs.Tasks.{capability_told, clean, deed_outcome, or_refusal, outcome_of_line, pockets_filled, session_filled, store_outcome, task_outcome}
 
-in_session : (s : State) (lines : List (List ℕ)) → length (answers (during s) lines) ≡ length lines
+in_session : (s : SessionState) (lines : List (List ℕ))
+    → length (answers (during s) lines) ≡ length lines
 in_session s [] = refl
-in_session s (line ∷ lines) = ap suc (in_session (carried_out s line).after lines)
+in_session s (line ∷ lines) = ap suc (in_session (outcome_of_line s line).after lines)
 
 one_for_each : OneForEach
 one_for_each = record {
   in_session = in_session;
-  from_the_first = λ m line lines t e.
-      ap (λ r. length (told_line (first_passage r).told ∷ answers (first_passage r).after lines)) e ∙ ap suc (in_session t.after lines);
+  from_the_first = λ m line lines o e.
+      ap (λ r. length (told_line (after_first r).told ∷ answers (after_first r).after lines)) e
+      ∙ ap suc (in_session o.after lines);
 }
 
 none_when_closed : (lines : List (List ℕ)) → answers closed lines ≡ []
 none_when_closed [] = refl
 none_when_closed (line ∷ lines) = refl
 
-stays_closed : (lines : List (List ℕ)) → behind closed lines ≡ closed
+stays_closed : (lines : List (List ℕ)) → stage_after closed lines ≡ closed
 stays_closed [] = refl
 stays_closed (line ∷ lines) = stays_closed lines
 
 refused_first : RefusedFirst
 refused_first m line lines refusal e =
-    ap (λ r. told_line (first_passage r).told ∷ answers (first_passage r).after lines) e ∙ ap (λ later. told_line (Err refusal) ∷ later) (none_when_closed lines)
+    ap (λ r. told_line (after_first r).told ∷ answers (after_first r).after lines) e
+    ∙ ap (λ later. told_line (Err refusal) ∷ later) (none_when_closed lines)
 
 in_order : InOrder
 in_order s [] later = refl
-in_order (before m) (line ∷ lines) later = ap (λ more. told_line (passed (before m) line).told ∷ more) (in_order (passed (before m) line).after lines later)
-in_order (during s) (line ∷ lines) later = ap (λ more. told_line (passed (during s) line).told ∷ more) (in_order (passed (during s) line).after lines later)
-in_order closed (line ∷ lines) later = sym (ap (λ s. answers s later) (stays_closed lines) ∙ none_when_closed later)
+in_order (before m) (line ∷ lines) later =
+    ap (λ more. told_line (outcome_at (before m) line).told ∷ more)
+    (in_order (outcome_at (before m) line).after lines later)
+in_order (during s) (line ∷ lines) later =
+    ap (λ more. told_line (outcome_at (during s) line).told ∷ more)
+    (in_order (outcome_at (during s) line).after lines later)
+in_order closed (line ∷ lines) later =
+    sym (ap (λ s. answers s later) (stays_closed lines) ∙ none_when_closed later)
 
 -- a refusal that came early changed nothing, so what follows decides
-then_unchanged : {A : Type 0} (s : State) (e : Refusal) (r : Result A LineRefusal) (next : A → Turn)
-    → ((a : A) → (next a).told ≡ Err e → (next a).after ≡ s) → (then_turn s r next).told ≡ Err e → (then_turn s r next).after ≡ s
-then_unchanged s e (Ok a) next h told = h a told
-then_unchanged s e (Err x) next h told = refl
+refusal_unchanged : {A : Type 0} (s : SessionState) (e : Refusal) (r : Result A LineRefusal)
+    (next : A → LineOutcome)
+    → ((a : A) → (next a).told ≡ Err e → (next a).after ≡ s) → (or_refusal s r next).told ≡ Err e
+    → (or_refusal s r next).after ≡ s
+refusal_unchanged s e (Ok a) next h told = h a told
+refusal_unchanged s e (Err x) next h told = refl
 
-filled_none : (pockets : List (Option Capability)) (to : Option Pocket) (e : Refusal) → filled pockets to (Err e) ≡ pockets
-filled_none pockets (Some to) e = refl
-filled_none pockets None e = refl
+store_unchanged : (s : SessionState) (e : Refusal) (scratch : List ℕ)
+    (d : Result Change StoreRefusal)
+    → (store_outcome s (outcome_by s.store scratch d)).told ≡ Err e
+    → (store_outcome s (outcome_by s.store scratch d)).after ≡ s
+store_unchanged s e scratch (Ok change) told = never_ok e change.told (sym told)
+store_unchanged s e scratch (Err x) told = refl
 
-filling_unchanged : (s : State) (e : Refusal) (to : Option Pocket) (t : Turn) → t.after ≡ s → t.told ≡ Err e → (filling to t).after ≡ s
-filling_unchanged s e to t same told =
-    ap (λ r. state (filled t.after.pockets to r) t.after.kept t.after.memory) told
-    ∙ ap (λ pockets. state pockets t.after.kept t.after.memory) (filled_none t.after.pockets to e) ∙ same
+deed_unchanged : (s : SessionState) (c : Capability) (deed : Deed) (e : Refusal)
+    → (deed_outcome s c deed).told ≡ Err e → (deed_outcome s c deed).after ≡ s
+deed_unchanged s c (ask (query q)) e told = refl
+deed_unchanged s c (ask (update u)) e told =
+    store_unchanged s e (scratch_after s.store (rule_of (update u)) clean)
+    (result_of s.store (is_sized s.store (rule_of (update u)) clean) (rule_of (update u)) c
+    (change_at s.store u)) told
+deed_unchanged s c (drop right) e told = refl
+deed_unchanged s c give e told = refl
 
-settled_unchanged : (s : State) (e : Refusal) (scratch : List ℕ) (d : Result Change StoreRefusal)
-    → refused_as store_refusal (settled s.kept s.memory scratch d).answer ≡ Err e
-    → state s.pockets (settled s.kept s.memory scratch d).kept (settled s.kept s.memory scratch d).memory ≡ s
-settled_unchanged s e scratch (Ok change) told = never_ok e change.told (sym told)
-settled_unchanged s e scratch (Err x) told = refl
-
-performed_unchanged : (s : State) (c : Capability) (right : Option ℕ) (ask : Option Ask) (e : Refusal)
-    → (performed s c right ask).told ≡ Err e → (performed s c right ask).after ≡ s
-performed_unchanged s c right (Some ask) e told = settled_unchanged s e (scratch_after s.kept s.memory ask) (decided s.kept s.memory c ask) told
-performed_unchanged s c (Some k) None e told = refl
-performed_unchanged s c None None e told = refl
-
-refused_step : (s : State) (step : Asked) (e : Refusal) → (carried s step).told ≡ Err e → (carried s step).after ≡ s
-refused_step s step e = then_unchanged s e (first_held s.pockets (presented step)) _ (λ c.
-    then_unchanged s e (second_held s.pockets (named_beside step) c) _ (λ beside told.
-    let t : Turn = performed s c (dropping step) (request step beside) in
-    filling_unchanged s e (target step) t (performed_unchanged s c (dropping step) (request step beside) e told) told))
+task_unchanged : (s : SessionState) (task : TaskValues) (e : Refusal)
+    → (task_outcome s task).told ≡ Err e → (task_outcome s task).after ≡ s
+task_unchanged s task e = refusal_unchanged s e (capability_in s.pockets task.presented) _ (λ c.
+    refusal_unchanged s e (deed_of s.pockets task.step) _ (λ deed told.
+    ap (session_filled (deed_outcome s c deed).after task.target) told
+    ∙ deed_unchanged s c deed e told))
 
 refused_changes_nothing : RefusedChangesNothing
-refused_changes_nothing s line e = then_unchanged s e (in_place false line) (carried s) (λ step. refused_step s step e)
+refused_changes_nothing s line e =
+    refusal_unchanged s e (refused_as bad_line (task_in line)) (task_outcome s)
+    (λ task. task_unchanged s task e)
 
 -- a pocket that is not the target
-module _ (i : ℕ) (to : Option Pocket) (other : (pocket : Pocket) → to ≡ Some pocket → i ≢ pocket.index) where
-  filled_elsewhere : (pockets : List (Option Capability)) (told : Result Told Refusal) → get_or (filled pockets to told) i None ≡ get_or pockets i None
-  filled_elsewhere pockets told = by to other told
+module _ (i : ℕ) (to : Option Pocket)
+    (other : (pocket : Pocket) → to ≡ Some pocket → i ≢ pocket.index) where
+  filled_elsewhere : (pockets : List (Option Capability)) (c : Option Capability)
+      → get_or (pockets_filled pockets to c) i None ≡ get_or pockets i None
+  filled_elsewhere pockets c = by to other c
     where
-      by : (to : Option Pocket) → ((pocket : Pocket) → to ≡ Some pocket → i ≢ pocket.index) → (told : Result Told Refusal)
-          → get_or (filled pockets to told) i None ≡ get_or pockets i None
-      by (Some p) other (Ok (granted c)) = get_or-set_other pockets p.index i (Some c) None (other p refl)
-      by (Some p) other (Ok (found c)) = get_or-set_other pockets p.index i (Some c) None (other p refl)
-      by (Some p) other (Ok (the_bytes bs)) = refl
-      by (Some p) other (Ok (the_size n)) = refl
-      by (Some p) other (Ok (the_name bs)) = refl
-      by (Some p) other (Ok done) = refl
-      by (Some p) other (Err e) = refl
-      by None other told = refl
+      by : (to : Option Pocket) → ((pocket : Pocket) → to ≡ Some pocket → i ≢ pocket.index)
+          → (c : Option Capability)
+          → get_or (pockets_filled pockets to c) i None ≡ get_or pockets i None
+      by (Some p) other (Some c) = get_or-set_other pockets p.index i (Some c) None (other p refl)
+      by (Some p) other None = refl
+      by None other c = refl
 
-same_pockets : (s : State) (c : Capability) (right : Option ℕ) (ask : Option Ask) → (performed s c right ask).after.pockets ≡ s.pockets
-same_pockets s c right (Some ask) = refl
-same_pockets s c (Some k) None = refl
-same_pockets s c None None = refl
+  session_elsewhere : (s : SessionState) (told : Result Told Refusal)
+      → get_or (session_filled s to told).pockets i None ≡ get_or s.pockets i None
+  session_elsewhere s (Ok told) = filled_elsewhere s.pockets (capability_told told)
+  session_elsewhere s (Err e) = refl
 
-then_elsewhere : {A : Type 0} (i : ℕ) (s : State) (r : Result A LineRefusal) (next : A → Turn)
-    → ((a : A) → get_or (next a).after.pockets i None ≡ get_or s.pockets i None) → get_or (then_turn s r next).after.pockets i None ≡ get_or s.pockets i None
-then_elsewhere i s (Ok a) next h = h a
-then_elsewhere i s (Err e) next h = refl
+same_pockets : (s : SessionState) (c : Capability) (deed : Deed)
+    → (deed_outcome s c deed).after.pockets ≡ s.pockets
+same_pockets s c (ask a) = refl
+same_pockets s c (drop right) = refl
+same_pockets s c give = refl
+
+refusal_elsewhere : {A : Type 0} (i : ℕ) (s : SessionState) (r : Result A LineRefusal)
+    (next : A → LineOutcome)
+    → ((a : A) → get_or (next a).after.pockets i None ≡ get_or s.pockets i None)
+    → get_or (or_refusal s r next).after.pockets i None ≡ get_or s.pockets i None
+refusal_elsewhere i s (Ok a) next h = h a
+refusal_elsewhere i s (Err e) next h = refl
 
 only_the_target : OnlyTheTarget
-only_the_target s step i other = then_elsewhere i s (first_held s.pockets (presented step)) _ (λ c.
-    then_elsewhere i s (second_held s.pockets (named_beside step) c) _ (λ beside.
-    let t : Turn = performed s c (dropping step) (request step beside) in
-    filled_elsewhere i (target step) other t.after.pockets t.told ∙ ap (λ pockets. get_or pockets i None) (same_pockets s c (dropping step) (request step beside))))
+only_the_target s task i other =
+    refusal_elsewhere i s (capability_in s.pockets task.presented) _ (λ c.
+    refusal_elsewhere i s (deed_of s.pockets task.step) _ (λ deed.
+    let o : LineOutcome = deed_outcome s c deed in
+    session_elsewhere i task.target other o.after o.told
+    ∙ ap (λ pockets. get_or pockets i None) (same_pockets s c deed)))
 
 pub laws_of_scripts : LawsOfScripts
 laws_of_scripts = record {

@@ -1,3 +1,2 @@
-pub mod CarryFacts
-pub mod PlaceFacts
+pub mod DeedFacts
 pub mod LawFacts

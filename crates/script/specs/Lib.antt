@@ -1,11 +1,10 @@
 pub mod AnswerLines
-pub mod Answered
-pub mod Beginning
-pub mod Carrying
+pub mod CodeStates
+pub mod Deeds
+pub mod Delivery
 pub mod Laws
 pub mod Opening
-pub mod Places
 pub mod Pockets
 pub mod Scripts
 pub mod Sessions
-pub mod Wanting
+pub mod Tasks

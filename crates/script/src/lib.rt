@@ -1,12 +1,12 @@
 //! Scripts: the pockets of eight holders, and each line carried out through to its answer.
 #![tactic(auto)]
 
-mod carrying;
+mod deed;
 mod opening;
-mod placing;
 mod pockets;
-mod scripts;
+mod script;
+mod session;
 mod showing;
-mod wanting;
+mod stage;
 
-pub use scripts::Script;
+pub use script::Script;

@@ -1,10 +1,9 @@
 //! The pockets of the holders.
-ghost use Rattle.script.specs.Pockets.{empty_pockets, held, put_into};
+ghost use Rattle.script.specs.Pockets.{capability_in, empty_pockets, pockets_with};
 ghost use Rattle.std.specs.Prelude.{◌≡◌};
 
 use holder::Capability;
-use ticket::LineRefusal;
-use words::Pocket;
+use lines::{LineRefusal, Pocket};
 
 /// Eight pockets for each of eight holders, empty or with a capability.
 #[derive(Drop)]
@@ -19,9 +18,9 @@ impl Pockets {
         Pockets { places: [None; 64] }
     }
 
-    /// What a pocket holds; refused at its word where it is empty.
+    /// The capability in a pocket. Refuses an empty pocket at its word.
     pub(crate) fn held(&self, pocket: Pocket) -> Result<Capability, LineRefusal>
-        ensures { result ≡ held self.now.places pocket }
+        ensures { result ≡ capability_in self.now.places pocket }
     {
         match self.places.get(usize::from(pocket.index)) {
             Some(Some(capability)) => Ok(*capability),
@@ -31,7 +30,7 @@ impl Pockets {
 
     /// Puts a capability into a pocket.
     pub(crate) fn put(&mut self, pocket: Pocket, capability: Capability)
-        ensures { self.new.places ≡ put_into self.old.places pocket capability }
+        ensures { self.new.places ≡ pockets_with self.old.places pocket capability }
     {
         let index = usize::from(pocket.index);
         if index < self.places.len() {

@@ -1,6 +1,0 @@
-use Rattle.std.proofs.Common.{[], None}
-use Rattle.console.specs.Reading.{ReadsOn, kept}
-use Rattle.console.proofs.lines.Line.read.Given as goal
-
-abbrev pub invariant-loop : goal.invariant-loop
-invariant-loop g l = ReadsOn (g.R.Read.remaining l.initial.input) (g.R.Read.remaining l.input) None [] (kept l.self)

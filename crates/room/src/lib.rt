@@ -1,0 +1,6 @@
+//! The memory of a program's store: taken once, of zeros, to be lent to a store.
+#![tactic(auto)]
+
+mod room;
+
+pub use room::Room;
