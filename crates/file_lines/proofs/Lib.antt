@@ -1,4 +1,4 @@
 pub mod FilingFacts
 pub mod FitFacts
 pub mod LineFacts
-pub mod WorksFacts
+pub mod RegistryFacts

@@ -1,5 +1,6 @@
 pub mod Filing
+pub mod Numbers
 pub mod Opening
 pub mod Printing
+pub mod Registry
 pub mod Secrets
-pub mod Works

@@ -1,45 +1,45 @@
--- The line that a step prints.
+-- The line that an action prints.
 use Rattle.std.specs.Prelude.{ℕ, List, ◌∷◌, [], ◌++◌, codes, decimal, Err, Ok, Result}
-use Rattle.holder.specs.Layout.{written}
+use Rattle.holder.specs.Layout.{capability_bytes}
 use Rattle.holder.specs.Refusals.{holder_refusal}
 use Rattle.holder.specs.declared.capability.Capability.{Capability}
-use Rattle.holder.specs.declared.refusals.HolderRefusal.{HolderRefusal}
-use Rattle.store.specs.Refusals.{store_refusal}
+use Rattle.holder.specs.declared.error.HolderRefusal.{HolderRefusal}
+use Rattle.store.specs.Errors.{store_refusal}
 use Rattle.store.specs.Requests.{Told, granted, the_bytes}
-use Rattle.store.specs.declared.refusals.StoreRefusal.{StoreRefusal}
+use Rattle.store.specs.declared.error.StoreRefusal.{StoreRefusal}
 use Rattle.text.specs.Hex.{hex_text}
 use Rattle.text.specs.RefusalLine.{refusal_line}
-use Rattle.file_lines.specs.declared.printing.Outcome.{Outcome}
-use Rattle.file_lines.specs.declared.printing.Outcome.TheVariants.{Bytes, Given, Refused}
-use Rattle.file_lines.specs.declared.printing.Step.{Step}
-use Rattle.file_lines.specs.declared.printing.Step.TheVariants.{File, Open, Read, Restrict, Withdraw}
+use Rattle.file_lines.specs.declared.action.Action.{Action}
+use Rattle.file_lines.specs.declared.action.Action.TheVariants.{File, Open, Read, Restrict, Revoke}
+use Rattle.file_lines.specs.declared.reply.Reply.{Reply}
+use Rattle.file_lines.specs.declared.reply.Reply.TheVariants.{Bytes, Given, Refused}
 
--- the step's word, and the number of the line that it is done to
-abbrev pub step_text : Step → List ℕ
-step_text Open = codes "open"
-step_text (File line) = codes "file " ++ decimal line
-step_text (Restrict line) = codes "restrict " ++ decimal line
-step_text (Read line) = codes "read " ++ decimal line
-step_text (Withdraw line) = codes "withdraw " ++ decimal line
+-- the word of the action, and the number of its line
+abbrev pub action_text : Action → List ℕ
+action_text Open = codes "open"
+action_text (File line) = codes "file " ++ decimal line
+action_text (Restrict line) = codes "restrict " ++ decimal line
+action_text (Read line) = codes "read " ++ decimal line
+action_text (Revoke line) = codes "withdraw " ++ decimal line
 
 -- a capability in hexadecimal, bytes as they are, or the line of a refusal
-abbrev pub outcome_text : Outcome → List ℕ
-outcome_text (Given capability) = hex_text (written capability)
-outcome_text (Bytes bytes) = bytes.now
-outcome_text (Refused refusal) = refusal_line refusal
+abbrev pub reply_text : Reply → List ℕ
+reply_text (Given capability) = hex_text (capability_bytes capability)
+reply_text (Bytes bytes) = bytes.now
+reply_text (Refused refusal) = refusal_line refusal
 
--- the same of what a store tells; nothing but these two is told where lines are filed
-abbrev pub told_text : Result Told StoreRefusal → List ℕ
-told_text (Ok (granted capability)) = outcome_text (Given capability)
-told_text (Ok (the_bytes bytes)) = bytes
-told_text (Ok other) = []
-told_text (Err e) = outcome_text (Refused (store_refusal e))
+-- an answer of the store: a registry asks for nothing but capabilities and bytes
+abbrev pub answer_text : Result Told StoreRefusal → List ℕ
+answer_text (Ok (granted capability)) = reply_text (Given capability)
+answer_text (Ok (the_bytes bytes)) = bytes
+answer_text (Ok other) = []
+answer_text (Err e) = reply_text (Refused (store_refusal e))
 
--- and of a capability that is restricted
-abbrev pub restricted_text : Result Capability HolderRefusal → List ℕ
-restricted_text (Ok capability) = outcome_text (Given capability)
-restricted_text (Err e) = outcome_text (Refused (holder_refusal e))
+-- a restricted capability
+abbrev pub restriction_text : Result Capability HolderRefusal → List ℕ
+restriction_text (Ok capability) = reply_text (Given capability)
+restriction_text (Err e) = reply_text (Refused (holder_refusal e))
 
--- the step, what it came to, and a line feed
-unfoldable pub step_line : Step → List ℕ → List ℕ
-step_line step came = step_text step ++ (codes " " ++ (came ++ (10 ∷ [])))
+-- the action, its reply, and a line feed
+unfoldable pub action_line : Action → List ℕ → List ℕ
+action_line action reply = action_text action ++ (codes " " ++ (reply ++ (10 ∷ [])))

@@ -1,18 +1,21 @@
-//! The steps that are taken, one after the other.
-ghost use Rattle.console.specs.Lines.{lines_in};
-ghost use Rattle.file_lines.specs.Filing.{FilesAll, closing_text, filing_text, reading_text, readings_text, run_told, run_with, whole_text, with_run, withdrawal_text};
-ghost use Rattle.file_lines.specs.Printing.{restricted_text, step_line};
-ghost use Rattle.file_lines.specs.declared.printing.Step.TheVariants.{Restrict};
-ghost use Rattle.file_lines.specs.Works.{filed, restricted, state_of, withdrawn};
-ghost use Rattle.memory.specs.Held.{content};
-ghost use Rattle.memory.specs.Soundness.{Content};
+//! Lines filed as runs.
+ghost use Rattle.file_lines.specs.Filing.{FilesAll, filing_text, run_of, run_with, whole_text, with_run};
+ghost use Rattle.file_lines.specs.Printing.{action_line, restriction_text};
+ghost use Rattle.file_lines.specs.Registry.{filing_outcome, reader_of, registry_state};
+ghost use Rattle.file_lines.specs.declared.action.Action.TheVariants.{Restrict};
 ghost use Rattle.std.specs.Io.Buffered.{reader_remaining};
 ghost use Rattle.std.specs.Io.KnownBytes.{Appends};
 ghost use Rattle.std.specs.Prelude.{◌≡◌, ◌++◌, [], IfOk, IfSome, OnOk};
+ghost use Rattle.store.specs.State.{kept_of};
+ghost use Rattle.text.specs.Lines.{lines_in};
 
+use crate::action::Action;
+use crate::closing::close;
 use crate::lines::read_line;
-use crate::printing::{Outcome, Step, print_step};
-use crate::works::Works;
+use crate::printing::print_action;
+use crate::registry::Registry;
+use crate::reply::Reply;
+use crate::run::Run;
 use anyhow::Context;
 use family::CommutingFamily;
 use holder::Capability;
@@ -20,29 +23,25 @@ use memory::Memory;
 use std::alloc::{AllocError, Global};
 use std::io::{self, BufReader, ErrorKind, Read, Write};
 
-/// A run that was filed: the number of its line, its owner capability, and the one that is handed out.
-#[derive(Clone, Copy)]
-struct Run {
-    line: u64,
-    owner: Capability,
-    reader: Capability,
-}
-
-/// Restricts the capability of a run that was filed; none where that is refused.
+/// Restricts the capability of a run that was filed. Returns no run where that is refused.
 fn restrict<F: CommutingFamily + Drop, W: Write>(
-    works: &Works<F>,
+    registry: &Registry<F>,
     line: u64,
     owner: Capability,
     output: &mut W,
 ) -> io::Result<Option<Run>>
-    ensures text { (m : Content) → OnOk result (Appends (W.contents output.old) (W.contents output.new) (step_line (Restrict line) (restricted_text (restricted (state_of F.modulus_of F.function_of works.now m) owner)))) }
-    ensures run { (m : Content) → IfOk result (λ run. run ≡ run_with line owner (restricted (state_of F.modulus_of F.function_of works.now m) owner)) }
+    ensures text { OnOk result
+        (Appends (W.contents output.old) (W.contents output.new)
+        (action_line (Restrict line)
+        (restriction_text (reader_of (kept_of F.meaning registry.now.store) owner)))) }
+    ensures run { IfOk result (λ run.
+        run ≡ run_with line owner (reader_of (kept_of F.meaning registry.now.store) owner)) }
 {
-    let restricted = works.restrict(owner);
-    print_step(
+    let restricted = registry.restrict(owner);
+    print_action(
         output,
-        Step::Restrict(line),
-        Outcome::of_restricting(restricted),
+        Action::Restrict(line),
+        Reply::to_restricting(restricted),
     )?;
     Ok(match restricted {
         Ok(reader) => Some(Run {
@@ -54,22 +53,27 @@ fn restrict<F: CommutingFamily + Drop, W: Write>(
     })
 }
 
-/// Files a line as a run, and restricts its capability; none where that is refused.
+/// Files a line as a run, and restricts its capability. Returns no run where either is refused.
 fn file_line<F: CommutingFamily + Drop, W: Write>(
-    works: &mut Works<F>,
+    registry: &mut Registry<F>,
     memory: &mut Memory,
     line: u64,
     bytes: &[u8],
     output: &mut W,
 ) -> io::Result<Option<Run>>
-    ensures text { OnOk result (Appends (W.contents output.old) (W.contents output.new) (filing_text line (filed (state_of F.modulus_of F.function_of works.old (content memory.old)) bytes.now))) }
-    ensures run { IfOk result (λ run. run ≡ run_told line (filed (state_of F.modulus_of F.function_of works.old (content memory.old)) bytes.now)) }
-    ensures after { state_of F.modulus_of F.function_of works.new (content memory.new) ≡ (filed (state_of F.modulus_of F.function_of works.old (content memory.old)) bytes.now).after }
+    ensures text { OnOk result
+        (Appends (W.contents output.old) (W.contents output.new)
+        (filing_text line
+        (filing_outcome (registry_state F.meaning registry.old memory.old) bytes.now))) }
+    ensures run { IfOk result (λ run. run ≡ run_of line
+        (filing_outcome (registry_state F.meaning registry.old memory.old) bytes.now)) }
+    ensures after { registry_state F.meaning registry.new memory.new
+        ≡ (filing_outcome (registry_state F.meaning registry.old memory.old) bytes.now).after }
 {
-    let filed = works.file(memory, bytes);
-    print_step(output, Step::File(line), Outcome::of_granting(filed))?;
+    let filed = registry.file(memory, bytes);
+    print_action(output, Action::File(line), Reply::to_granting(filed))?;
     match filed {
-        Ok(owner) => restrict(works, line, owner, output),
+        Ok(owner) => restrict(registry, line, owner, output),
         Err(_) => Ok(None),
     }
 }
@@ -84,15 +88,19 @@ fn add_run(runs: &mut Vec<Run>, run: Option<Run>) -> Result<(), AllocError>
     Ok(())
 }
 
-/// Files each line of the input; gives the runs that were filed. What comes of a line is printed before the next one is waited for.
+/// Files each line of the input, and returns the runs. Prints what comes of a line before it waits
+/// for the next one.
 fn file_lines<F: CommutingFamily + Drop, R: Read + Drop, W: Write>(
     alloc: Global,
-    works: &mut Works<F>,
+    registry: &mut Registry<F>,
     memory: &mut Memory,
     input: &mut BufReader<R>,
     output: &mut W,
 ) -> anyhow::Result<Vec<Run>>
-    ensures { IfOk result (λ runs. FilesAll (state_of F.modulus_of F.function_of works.old (content memory.old)) (reader_remaining R.remaining input.old) (W.contents output.old) (W.contents output.new) runs.items (state_of F.modulus_of F.function_of works.new (content memory.new))) }
+    ensures { IfOk result (λ runs.
+        FilesAll (registry_state F.meaning registry.old memory.old)
+        (reader_remaining R.remaining input.old) (W.contents output.old) (W.contents output.new)
+        runs.items (registry_state F.meaning registry.new memory.new)) }
 {
     let mut runs = Vec::new(alloc);
     let mut bytes = Vec::new(alloc);
@@ -100,90 +108,28 @@ fn file_lines<F: CommutingFamily + Drop, R: Read + Drop, W: Write>(
         if !read_line(input, &mut bytes).context("the lines cannot be read")? {
             return Ok(runs);
         }
-        let run = file_line(works, memory, line, &bytes, output)?;
+        let run = file_line(registry, memory, line, &bytes, output)?;
         add_run(&mut runs, run)?;
         output.flush()?;
     }
     Err(io::Error::from(ErrorKind::TimedOut).into())
 }
 
-/// Reads a run with the capability that was handed out for it.
-#[tactic(auto, unfolding(crate::specs::Filing::reading_text))]
-fn read_back<F: CommutingFamily + Drop, W: Write>(
-    works: &Works<F>,
-    memory: &Memory,
-    run: Run,
-    output: &mut W,
-) -> io::Result<()>
-    ensures { OnOk result (Appends (W.contents output.old) (W.contents output.new) (reading_text (state_of F.modulus_of F.function_of works.now (content memory.now)) run)) }
-{
-    let read = works.read(memory, run.reader);
-    print_step(output, Step::Read(run.line), Outcome::of_reading(read))
-}
-
-/// Withdraws a run, and tries to read it as before.
-fn withdraw<F: CommutingFamily + Drop, W: Write>(
-    works: &mut Works<F>,
-    memory: &mut Memory,
-    run: Run,
-    output: &mut W,
-) -> io::Result<()>
-    ensures text { OnOk result (Appends (W.contents output.old) (W.contents output.new) (withdrawal_text (state_of F.modulus_of F.function_of works.old (content memory.old)) run)) }
-    ensures after { OnOk result (state_of F.modulus_of F.function_of works.new (content memory.new) ≡ (withdrawn (state_of F.modulus_of F.function_of works.old (content memory.old)) run.owner).after) }
-{
-    let withdrawn = works.withdraw(memory, run.owner);
-    print_step(
-        output,
-        Step::Withdraw(run.line),
-        Outcome::of_granting(withdrawn),
-    )?;
-    read_back(works, memory, run, output)
-}
-
-/// Reads runs, one after the other.
-fn read_all<F: CommutingFamily + Drop, W: Write>(
-    works: &Works<F>,
-    memory: &Memory,
-    runs: &[Run],
-    output: &mut W,
-) -> io::Result<()>
-    ensures { OnOk result (Appends (W.contents output.old) (W.contents output.new) (readings_text (state_of F.modulus_of F.function_of works.now (content memory.now)) runs.now)) }
-{
-    for run in runs {
-        read_back(works, memory, *run, output)?;
-    }
-    Ok(())
-}
-
-/// Reads the runs that were filed, and withdraws the first.
-fn close<F: CommutingFamily + Drop, W: Write>(
-    works: &mut Works<F>,
-    memory: &mut Memory,
-    runs: &[Run],
-    output: &mut W,
-) -> io::Result<()>
-    ensures { OnOk result (Appends (W.contents output.old) (W.contents output.new) (closing_text (state_of F.modulus_of F.function_of works.old (content memory.old)) runs.now)) }
-{
-    read_all(works, memory, runs, output)?;
-    match runs {
-        [] => Ok(()),
-        [first, ..] => withdraw(works, memory, *first, output),
-    }
-}
-
-/// Files each line of the input as a run, reads the runs back, and withdraws the first.
+/// Files each line of the input as a run, reads the runs back, and revokes the first.
 pub(crate) fn file_all<F: CommutingFamily + Drop, R: Read + Drop, W: Write>(
     alloc: Global,
-    works: &mut Works<F>,
+    registry: &mut Registry<F>,
     memory: &mut Memory,
     input: &mut BufReader<R>,
     output: &mut W,
 ) -> anyhow::Result<()>
-    ensures { OnOk result (IfSome (reader_remaining R.remaining input.old) (λ xs. Appends (W.contents output.old) (W.contents output.new) (whole_text (state_of F.modulus_of F.function_of works.old (content memory.old)) (lines_in xs)))) }
+    ensures { OnOk result (IfSome (reader_remaining R.remaining input.old) (λ xs.
+        Appends (W.contents output.old) (W.contents output.new)
+        (whole_text (registry_state F.meaning registry.old memory.old) (lines_in xs)))) }
 {
-    print_step(output, Step::Open, Outcome::Given(works.owner()))?;
+    print_action(output, Action::Open, Reply::Given(registry.owner()))?;
     output.flush()?;
-    let runs = file_lines(alloc, works, memory, input, output)?;
-    close(works, memory, &runs, output)?;
+    let runs = file_lines(alloc, registry, memory, input, output)?;
+    close(registry, memory, &runs, output)?;
     Ok(())
 }

@@ -1,27 +1,27 @@
-//! file_lines: files the lines of its input as runs in a store of its own, hands them out for reading, and withdraws the first.
+//! file_lines: files the lines of its input as runs in a store of its own, hands them out for
+//! reading, and revokes the first.
 #![tactic(auto)]
 
-ghost use Rattle.file_lines.specs.Opening.{opened_over, powers_as};
-ghost use Rattle.memory.specs.Held.{content};
-ghost use Rattle.std.specs.Prelude.{◌≡◌};
-
+mod action;
+mod closing;
 mod filing;
 mod lines;
+mod numbers;
+mod opening;
 mod printing;
+mod registry;
+mod reply;
+mod run;
 mod secrets;
-mod works;
 
-use crate::filing::file_all;
-use crate::printing::{Outcome, Step, print_step};
-use crate::works::Works;
-use console::Room;
-use family::Powers;
+use crate::numbers::{Numbers, read_numbers};
+use crate::opening::open_and_file;
+use anyhow::anyhow;
 use memory::Memory;
-use refusal::Refusal;
+use room::Room;
 use std::env;
 use std::io::{self, BufReader, BufWriter, Write};
 use std::process::ExitCode;
-use text::read_decimal;
 
 const USAGE: &str = "usage: file_lines MODULUS SECRET
 
@@ -41,46 +41,20 @@ The exit status is 0 when the store was opened, whatever was refused in it, and 
 when lines could not be read or steps not be printed.
 ";
 
-/// Opens a store of powers.
-fn open(modulus: u64, secret: u64, memory: &mut Memory) -> Result<Works<Powers>, Refusal>
-    ensures { powers_as (content memory.new) result ≡ opened_over modulus secret (content memory.old) }
-{
-    Ok(Works::open(Powers::new(modulus)?, secret, memory)?)
-}
-
 /// Opens a store over memory of this program's own, and files the lines of standard input there.
-fn run(rt: &HostRuntime, modulus: u64, secret: u64) -> anyhow::Result<ExitCode> {
-    let mut room = Room::new(rt.alloc())?;
+fn file_standard_input(rt: &HostRuntime, numbers: Numbers) -> anyhow::Result<ExitCode> {
+    let mut room = Room::new(rt.alloc()).map_err(|_| anyhow!("no memory for the store"))?;
     let mut memory = Memory {
         files: &mut room.files,
         directories: &mut room.directories,
         rows: &mut room.rows,
         area: &mut room.area,
     };
+    let mut input = BufReader::new(rt.alloc(), rt.reader())?;
     let mut output = BufWriter::new(rt.alloc(), io::writer(rt))?;
-    let opened = match open(modulus, secret, &mut memory) {
-        Ok(mut works) => {
-            let mut input = BufReader::new(rt.alloc(), rt.reader())?;
-            file_all(rt.alloc(), &mut works, &mut memory, &mut input, &mut output)?;
-            ExitCode::SUCCESS
-        }
-        Err(refusal) => {
-            print_step(&mut output, Step::Open, Outcome::Refused(refusal))?;
-            ExitCode::FAILURE
-        }
-    };
+    let code = open_and_file(rt.alloc(), numbers, &mut memory, &mut input, &mut output)?;
     output.flush()?;
-    Ok(opened)
-}
-
-/// MODULUS and SECRET, if these are the words behind the program's name.
-fn read_numbers(words: &[String]) -> Option<(u64, u64)> {
-    let [_, modulus, secret] = words else {
-        return None;
-    };
-    let modulus = read_decimal(modulus.as_bytes())?;
-    let secret = read_decimal(secret.as_bytes())?;
-    Some((modulus, secret))
+    Ok(code)
 }
 
 fn main(rt: HostRuntime) -> anyhow::Result<ExitCode> {
@@ -91,11 +65,11 @@ fn main(rt: HostRuntime) -> anyhow::Result<ExitCode> {
         rt.print(USAGE)?;
         return Ok(ExitCode::SUCCESS);
     }
-    let Some((modulus, secret)) = read_numbers(&words) else {
+    let Some(numbers) = read_numbers(&words) else {
         eprint!(rt;
             "file_lines: MODULUS and SECRET are wanted, each a decimal of 1 to 15 digits\n\n{USAGE}"
         )?;
         return Ok(ExitCode::FAILURE);
     };
-    run(&rt, modulus, secret)
+    file_standard_input(&rt, numbers)
 }

@@ -1,7 +1,7 @@
 //! restrict: gives up rights of a capability, on a laptop, with no connection.
 #![tactic(auto)]
 
-use restriction::{Failure, Words, restrict_words};
+use restrict_command::{Failure, Words, restrict_words};
 use std::env;
 use std::process::ExitCode;
 use text::RefusalLine;
@@ -21,7 +21,7 @@ A refusal prints its line, 'no NUMBER LAYER PLACE', and ends with status 1:
   no 9 H 0    the check of CAPABILITY is not below MODULUS
 ";
 
-/// Takes the four words through, and prints what came of them.
+/// Takes the four words through, and prints the report, the refusal or the misuse.
 fn run(rt: &HostRuntime, words: Words) -> anyhow::Result<ExitCode> {
     match restrict_words(words) {
         Ok(report) => {

@@ -6,4 +6,4 @@ use Rattle.file_lines.proofs.secrets.next_fit.Given as goal
 abbrev pub invariant-loop-number : goal.invariant-loop-number
 invariant-loop-number g l =
     let m = g.F.CommutingFamily in
-    NoneBelow (can_follow (m.modulus_of l.family) (m.function_of l.family) l.last) l.number
+    NoneBelow (can_follow (m.meaning l.family) l.last) l.number

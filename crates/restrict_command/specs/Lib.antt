@@ -1,0 +1,3 @@
+pub mod Report
+pub mod Restriction
+pub mod Words
