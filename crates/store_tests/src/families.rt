@@ -1,9 +1,15 @@
-//! Families in which a store behaves as the built-in ones do not show: no secret is fit, or two secrets share what they are thinned to.
+//! Families that show what the built-in ones do not: no secret is fit, or two secrets are thinned
+//! to the same number.
 ghost use Rattle.std.specs.Int.Bits.{bit_and};
 ghost use Rattle.std.specs.Prelude.{◌≤◌, ◌-◌, ◌^◌, refl};
 ghost use Rattle.std.proofs.Common.{arith};
 ghost use Rattle.store_tests.specs.Masking.{masks_commute, masked_below};
 
+use crate::act::Act;
+use crate::bench::PORT;
+use crate::lend;
+use crate::performing::perform;
+use crate::room::{SmallRoom, masks};
 use admission::Denial;
 use family::CommutingFamily;
 use memory::Memory;
@@ -11,7 +17,6 @@ use runs::{Gate, open};
 use secret::{SETS, Secret};
 use std::test::Fail;
 use store::StoreRefusal;
-use store_bench::{PORT, Room, Step, lend, masks, take};
 
 /// The identity over 1000: lawful, though no secret is fit in it.
 #[derive(Clone, Copy)]
@@ -22,11 +27,14 @@ impl CommutingFamily for Unmoving {
 
     ghost LETTER = { 73 };
 
-    ghost modulus_of = { λ _. 1000 };
+    ghost meaning = { λ _. record { modulus = 1000; function = λ k v. v } };
 
-    ghost function_of = { λ _ k v. v };
-
-    ghost laws = { λ _. record { least = omega arith; most = omega arith; within = λ k v p h. h; commutes = λ j k v p q h. refl } };
+    ghost laws = { λ _. record {
+      least = omega arith;
+      most = omega arith;
+      within = λ k v p h. h;
+      commutes = λ j k v p q h. refl;
+    } };
 
     fn modulus(&self) -> u64 {
         1000
@@ -46,11 +54,14 @@ impl CommutingFamily for Clearing {
 
     ghost LETTER = { 67 };
 
-    ghost modulus_of = { λ _. 512 };
+    ghost meaning = { λ _. record { modulus = 512; function = λ k v. bit_and v (255 - 2 ^ k) } };
 
-    ghost function_of = { λ _ k v. bit_and v (255 - 2 ^ k) };
-
-    ghost laws = { λ _. record { least = omega arith; most = omega arith; within = λ k v p h. masked_below k v h; commutes = λ j k v p q h. masks_commute j k v } };
+    ghost laws = { λ _. record {
+      least = omega arith;
+      most = omega arith;
+      within = λ k v p h. masked_below k v h;
+      commutes = λ j k v p q h. masks_commute j k v;
+    } };
 
     fn modulus(&self) -> u64 {
         512
@@ -61,7 +72,7 @@ impl CommutingFamily for Clearing {
     }
 }
 
-/// Why a store over the identity is not opened, if it is not.
+/// The refusal of a store over the identity, if there is one.
 fn refused_over_the_identity(memory: &mut Memory, scratch: &mut [u64]) -> Option<StoreRefusal> {
     let gate = Gate {
         family: Unmoving,
@@ -73,13 +84,13 @@ fn refused_over_the_identity(memory: &mut Memory, scratch: &mut [u64]) -> Option
 
 #[test]
 fn no_secret_is_fit_in_the_identity(rt: HostRuntime) {
-    let mut room = Room::new();
+    let mut room = SmallRoom::new();
     let mut memory = lend!(room);
     let mut scratch = [9; SETS];
     let refused = refused_over_the_identity(&mut memory, &mut scratch);
     assert_eq!(rt; refused, Some(StoreRefusal::UnfitSecret));
     assert!(rt; scratch == [0; SETS], "the scratch is wiped");
-    assert!(rt; room.is_same(&Room::new()), "memory is as it was");
+    assert!(rt; room.is_same(&SmallRoom::new()), "memory is as it was");
 }
 
 /// A store of numbers of nine bits.
@@ -91,41 +102,41 @@ fn clearing_gate() -> Gate<Clearing> {
     }
 }
 
-static SHARED: [Step; 9] = [
-    Step::File(b"abc", 255, Ok(1)),
-    Step::Thin(1, 1, Ok(1)),
-    Step::Check(2, 1),
-    Step::Read(2, Ok(b"abc")),
-    Step::Revoke(1, 511, Ok(1)),
+static SHARED: [Act; 9] = [
+    Act::File(b"abc", 255, Ok(1)),
+    Act::Thin(1, 1, Ok(1)),
+    Act::Check(2, 1),
+    Act::Read(2, Ok(b"abc")),
+    Act::Revoke(1, 511, Ok(1)),
     // The old owner capability.
-    Step::Read(1, Err(StoreRefusal::Denied(Denial::WrongCheck, 0))),
-    Step::Read(2, Ok(b"abc")),
+    Act::Read(1, Err(StoreRefusal::Denied(Denial::WrongCheck, 0))),
+    Act::Read(2, Ok(b"abc")),
     // The same sixteen bytes.
-    Step::Thin(3, 1, Ok(1)),
-    Step::Same(4, 2),
+    Act::Thin(3, 1, Ok(1)),
+    Act::Same(4, 2),
 ];
 
 #[test]
 fn two_secrets_share_what_they_are_thinned_to() -> Result<(), Fail> {
-    take(clearing_gate(), &SHARED)?;
+    perform(clearing_gate(), &SHARED)?;
     Ok(())
 }
 
 #[test]
 fn the_whole_capability_of_a_row_is_judged() -> Result<(), Fail> {
-    let steps = [
-        Step::File(b"abc", 255, Ok(1)),
-        Step::Directory(255, Ok(4)),
-        Step::Enter(2, b"run", 1, masks(1, 1, 1), Ok(())),
-        Step::Thin(1, 1, Ok(1)),
-        Step::LookUp(2, b"run", Ok(3)),
-        Step::Revoke(1, 511, Ok(1)),
+    let acts = [
+        Act::File(b"abc", 255, Ok(1)),
+        Act::Directory(255, Ok(4)),
+        Act::Enter(2, b"run", 1, masks(1, 1, 1), Ok(())),
+        Act::Thin(1, 1, Ok(1)),
+        Act::LookUp(2, b"run", Ok(3)),
+        Act::Revoke(1, 511, Ok(1)),
         // What the row showed is still accepted.
-        Step::Read(3, Ok(b"abc")),
+        Act::Read(3, Ok(b"abc")),
         // What it holds is not.
-        Step::LookUp(2, b"run", Err(StoreRefusal::RowNotAccepted(0))),
-        Step::Walk(2, b"run", Err(StoreRefusal::RowNotAccepted(1))),
+        Act::LookUp(2, b"run", Err(StoreRefusal::RowNotAccepted(0))),
+        Act::Walk(2, b"run", Err(StoreRefusal::RowNotAccepted(1))),
     ];
-    take(clearing_gate(), &steps)?;
+    perform(clearing_gate(), &acts)?;
     Ok(())
 }

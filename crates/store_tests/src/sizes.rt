@@ -1,4 +1,9 @@
 //! Sizes of memory and scratch, at both ends of every limit and one past each.
+use crate::act::Act;
+use crate::bench::{Bench, gate};
+use crate::lend;
+use crate::performing::{Done, perform};
+use crate::room::{SmallRoom, old_directory, old_file, old_row};
 use admission::Denial;
 use family::Powers;
 use holder::{Capability, Rights};
@@ -8,7 +13,6 @@ use secret::{SETS, Secret};
 use std::alloc::Global;
 use std::test::Fail;
 use store::StoreRefusal;
-use store_bench::{Bench, Room, Step, Taken, gate, lend, old_directory, old_file, old_row, take};
 
 /// Numbers of records, rows, bytes and numbers of scratch.
 #[derive(Clone, Copy)]
@@ -36,7 +40,7 @@ const LARGEST: Sizes = Sizes {
     scratch: SETS,
 };
 
-/// Why opening over this memory with this scratch is refused, if it is.
+/// The refusal of an opening over this memory with this scratch, if there is one.
 fn opened(memory: &mut Memory, scratch: &mut [u64]) -> Result<Option<StoreRefusal>, Fail> {
     Ok(open(gate()?, memory, scratch).err())
 }
@@ -50,7 +54,8 @@ fn is_untouched(memory: &Memory, scratch: &[u64]) -> bool {
         && scratch.iter().all(|number| *number == 9)
 }
 
-/// Why opening over memory of these sizes is refused, if it is, and whether memory and scratch are as they were.
+/// The refusal of an opening over memory of these sizes, if there is one; and whether memory and
+/// scratch are as they were made.
 fn refused(heap: Global, sizes: Sizes) -> Result<(Option<StoreRefusal>, bool), Fail> {
     let mut files = vec![in heap; old_file(); sizes.files]?;
     let mut directories = vec![in heap; old_directory(); sizes.directories]?;
@@ -142,23 +147,23 @@ macro_rules! lend_part {
 #[derive(Drop)]
 struct Begun {
     bench: Bench<Powers>,
-    room: Room,
+    room: SmallRoom,
     run: Capability,
 }
 
-/// A store with a file over so much of a room, if it has so much and all is granted.
+/// A store with a file over so much of a room, if it has so much.
 fn begin(sizes: Sizes) -> Option<Begun> {
-    let mut room = Room::new();
+    let mut room = SmallRoom::new();
     let mut memory = lend_part!(room, sizes);
     let mut bench = Bench::new(gate().ok()?, &mut memory).ok()?;
     let run = bench.file(&mut memory, b"abc", 11).ok()?;
     Some(Begun { bench, room, run })
 }
 
-/// What a store tells of a file's size over so much of a room, if it has so much.
+/// The size of a file, as a store answers over so much of a room, if it has so much.
 fn size_within(
     bench: &Bench<Powers>,
-    mut room: Room,
+    mut room: SmallRoom,
     run: Capability,
     sizes: Sizes,
 ) -> Option<Result<u64, StoreRefusal>> {
@@ -203,9 +208,9 @@ fn sizes_other_than_at_the_opening(rt: HostRuntime) -> Result<(), Fail> {
     Ok(())
 }
 
-static FILED: [Step; 1] = [Step::File(b"abc", 11, Ok(1))];
+static FILED: [Act; 1] = [Act::File(b"abc", 11, Ok(1))];
 
-/// Whether a revoke is refused so, and all of its scratch is this number then.
+/// Whether the store refuses a revoke so, and leaves this number in the whole scratch.
 fn leaves(
     bench: &mut Bench<Powers>,
     memory: &mut Memory,
@@ -218,14 +223,14 @@ fn leaves(
     refusal == Some(wanted) && scratch.iter().all(|number| *number == left)
 }
 
-/// Wiped though the secret is refused, and though the check is.
+/// Wiped where the store refuses the secret, and where it refuses the check.
 #[test]
 fn scratches_are_wiped(rt: HostRuntime) -> Result<(), Fail> {
-    let Taken {
+    let Done {
         mut bench,
         mut room,
         given,
-    } = take(gate()?, &FILED)?;
+    } = perform(gate()?, &FILED)?;
     let mut memory = lend!(room);
     let run = given.at(1);
     let unknown = Capability {
@@ -249,11 +254,11 @@ fn scratches_are_wiped(rt: HostRuntime) -> Result<(), Fail> {
 
 #[test]
 fn a_scratch_of_another_size_is_not_wiped(rt: HostRuntime) -> Result<(), Fail> {
-    let Taken {
+    let Done {
         mut bench,
         mut room,
         given,
-    } = take(gate()?, &FILED)?;
+    } = perform(gate()?, &FILED)?;
     let mut memory = lend!(room);
     let mut short = [9; 255];
     let size = (given.at(1), 13, StoreRefusal::WrongSizes);

@@ -1,13 +1,16 @@
-//! Memory that was spoilt between two requests, in each way that there is: refused, and left as it is.
+//! Memory spoilt between two requests, in each way that there is: refused, and left as it is.
+use crate::act::Act;
+use crate::bench::{MODULUS, gate};
+use crate::performing::{Done, go_on, perform};
+use crate::room::old_row;
 use family::Powers;
 use holder::{Capability, Check, Port};
 use memory::{DirectoryRecord, FileRecord, Row};
 use secret::Secret;
 use std::test::Fail;
 use store::StoreRefusal;
-use store_bench::{MODULUS, Step, Taken, gate, go_on, old_row, take};
 
-/// What is wrong with the memory.
+/// A way in which memory is not sound.
 #[derive(Clone, Copy, Debug)]
 enum Flaw {
     SecretOfAFile,
@@ -39,7 +42,7 @@ static FLAWS: [Flaw; 12] = [
     Flaw::Check,
 ];
 
-/// The file with a flaw, which is one byte at the start of the area as it stands.
+/// The file with a flaw. Without one, it is the first byte of the area.
 fn spoilt_file(flaw: Flaw, file: FileRecord) -> FileRecord {
     match flaw {
         Flaw::SecretOfAFile => FileRecord {
@@ -56,7 +59,7 @@ fn spoilt_file(flaw: Flaw, file: FileRecord) -> FileRecord {
     }
 }
 
-/// The directory with a flaw, which has two rows as it stands.
+/// The directory with a flaw. Without one, it has two rows.
 fn spoilt_directory(flaw: Flaw, directory: DirectoryRecord) -> DirectoryRecord {
     match flaw {
         Flaw::SecretOfADirectory => DirectoryRecord {
@@ -71,7 +74,7 @@ fn spoilt_directory(flaw: Flaw, directory: DirectoryRecord) -> DirectoryRecord {
     }
 }
 
-/// The row with a flaw, which has the name `b` as it stands, after a row with the name `a`.
+/// The row with a flaw. Without one, it has the name `b`, after a row with the name `a`.
 fn spoilt_row(flaw: Flaw, row: Row) -> Result<Row, Fail> {
     Ok(match flaw {
         Flaw::NoName => Row { length: 0, ..row },
@@ -119,22 +122,22 @@ fn row(name: u8, capability: Capability) -> Row {
 }
 
 /// Two files of one byte, and a directory.
-static STORED: [Step; 3] = [
-    Step::File(b"x", 11, Ok(1)),
-    Step::File(b"y", 13, Ok(2)),
-    Step::Directory(17, Ok(4)),
+static STORED: [Act; 3] = [
+    Act::File(b"x", 11, Ok(1)),
+    Act::File(b"y", 13, Ok(2)),
+    Act::Directory(17, Ok(4)),
 ];
 
 /// A store with two files of one byte and a directory of two rows.
-fn prepare() -> Result<Taken<Powers>, Fail> {
-    let mut taken = take(gate()?, &STORED)?;
+fn prepare() -> Result<Done<Powers>, Fail> {
+    let mut taken = perform(gate()?, &STORED)?;
     taken.room.rows[0] = row(b'a', taken.given.at(1));
     taken.room.rows[1] = row(b'b', taken.given.at(2));
     taken.room.directories[0].count = 2;
     Ok(taken)
 }
 
-static WHOLE: [Step; 1] = [Step::Size(1, Ok(1))];
+static WHOLE: [Act; 1] = [Act::Size(1, Ok(1))];
 
 #[test]
 fn the_memory_without_a_flaw() -> Result<(), Fail> {
@@ -142,7 +145,7 @@ fn the_memory_without_a_flaw() -> Result<(), Fail> {
     Ok(())
 }
 
-static REFUSED: [Step; 1] = [Step::Destroy(1, Err(StoreRefusal::UnsoundMemory))];
+static REFUSED: [Act; 1] = [Act::Destroy(1, Err(StoreRefusal::UnsoundMemory))];
 
 #[test]
 fn each_flaw_is_refused_and_left_alone(rt: HostRuntime) -> Result<(), Fail> {

@@ -1,12 +1,16 @@
-//! What a capability presented to a directory must be, for each request to one.
+//! Capabilities presented to a directory, by each request to one: the order of the refusals.
+use crate::act::Act;
 use crate::asked::{ALL, Asked, refused};
+use crate::bench::{Bench, gate, not_accepted, thinned};
+use crate::lend;
+use crate::performing::{Done, perform};
+use crate::room::{OPEN, SmallRoom};
 use admission::Denial;
 use family::Powers;
 use holder::{Capability, Port};
 use memory::Memory;
 use std::test::Fail;
 use store::StoreRefusal;
-use store_bench::{Bench, OPEN, Room, Step, Taken, gate, lend, not_accepted, take, thinned};
 
 /// The run, the first capability given after the store's.
 const RUN: usize = 1;
@@ -14,16 +18,17 @@ const RUN: usize = 1;
 /// The directory that has a row of it, given next.
 const DIRECTORY: usize = 2;
 
-static FILLED: [Step; 3] = [
-    Step::File(b"abc", 11, Ok(1)),
-    Step::Directory(13, Ok(4)),
-    Step::Enter(DIRECTORY, b"run", RUN, OPEN, Ok(())),
+static FILLED: [Act; 3] = [
+    Act::File(b"abc", 11, Ok(1)),
+    Act::Directory(13, Ok(4)),
+    Act::Enter(DIRECTORY, b"run", RUN, OPEN, Ok(())),
 ];
 
-/// Why a request is refused by a name that is neither lawful nor a path, where the other directory counts so many rows and the area has so many bytes.
+/// The refusal of a request with `/`, which is no name and no path. The other directory counts so
+/// many rows, and the area has so many bytes.
 fn refused_over(
     bench: &Bench<Powers>,
-    mut room: Room,
+    mut room: SmallRoom,
     count: u64,
     area: usize,
     asked: Asked,
@@ -40,7 +45,7 @@ fn refused_over(
     refused(bench, &mut memory, asked, shown, b"/", entry)
 }
 
-/// Why a request is refused by that name over sound memory, with a capability of another store.
+/// The refusal of that name over sound memory, with a capability of another store.
 fn refused_by_name(asked: Asked) -> Option<StoreRefusal> {
     match asked {
         Asked::Enter | Asked::Remove | Asked::LookUp => Some(StoreRefusal::BadName),
@@ -50,8 +55,8 @@ fn refused_by_name(asked: Asked) -> Option<StoreRefusal> {
 }
 
 #[test]
-fn memory_and_names_come_first(rt: HostRuntime) -> Result<(), Fail> {
-    let Taken { bench, room, given } = take(gate()?, &FILLED)?;
+fn sizes_soundness_and_form_come_first(rt: HostRuntime) -> Result<(), Fail> {
+    let Done { bench, room, given } = perform(gate()?, &FILLED)?;
     let run = given.at(RUN);
     let port = Port { bytes: [9; 6] };
     let shown = Capability {
@@ -72,7 +77,7 @@ fn memory_and_names_come_first(rt: HostRuntime) -> Result<(), Fail> {
     Ok(())
 }
 
-/// The name by which a request is granted where the directory has a row of the run.
+/// A name for which the store grants the request, where the directory has a row of the run.
 fn good_name(asked: Asked) -> &'static [u8] {
     match asked {
         Asked::Enter => b"new",
@@ -80,10 +85,10 @@ fn good_name(asked: Asked) -> &'static [u8] {
     }
 }
 
-/// Why a request is refused with what is left of a directory's capability within a mask, if it is.
+/// The refusal of a request with a directory's capability thinned to a mask, if there is one.
 fn refused_within(
     bench: &Bench<Powers>,
-    mut room: Room,
+    mut room: SmallRoom,
     asked: Asked,
     directory: Capability,
     bits: u8,
@@ -97,7 +102,7 @@ fn refused_within(
 
 #[test]
 fn one_right_alone(rt: HostRuntime) -> Result<(), Fail> {
-    let Taken { bench, room, given } = take(gate()?, &FILLED)?;
+    let Done { bench, room, given } = perform(gate()?, &FILLED)?;
     let (run, directory) = (given.at(RUN), given.at(DIRECTORY));
     for asked in ALL {
         for bits in [1, 2, 4, 8, 16, 32, 64, 128] {
@@ -114,15 +119,15 @@ fn one_right_alone(rt: HostRuntime) -> Result<(), Fail> {
 }
 
 /// A filled directory, and a file that is gone.
-static GONE: [Step; 5] = [
-    Step::File(b"abc", 11, Ok(1)),
-    Step::Directory(13, Ok(4)),
-    Step::Enter(DIRECTORY, b"run", RUN, OPEN, Ok(())),
-    Step::File(b"d", 17, Ok(2)),
-    Step::Destroy(3, Ok(())),
+static GONE: [Act; 5] = [
+    Act::File(b"abc", 11, Ok(1)),
+    Act::Directory(13, Ok(4)),
+    Act::Enter(DIRECTORY, b"run", RUN, OPEN, Ok(())),
+    Act::File(b"d", 17, Ok(2)),
+    Act::Destroy(3, Ok(())),
 ];
 
-/// A name that is unknown, or taken where it is entered.
+/// A name that is unknown, or taken where the request enters it.
 fn bad_name(asked: Asked) -> &'static [u8] {
     match asked {
         Asked::Enter => b"run",
@@ -130,7 +135,7 @@ fn bad_name(asked: Asked) -> &'static [u8] {
     }
 }
 
-/// Capabilities that are denied a request to a directory, with the denials.
+/// Capabilities with which the store denies a request to a directory, each with the denial.
 fn denied(
     asked: Asked,
     directory: Capability,
@@ -153,15 +158,15 @@ fn denied(
 
 #[test]
 fn faults_in_order(rt: HostRuntime) -> Result<(), Fail> {
-    let Taken {
+    let Done {
         bench,
         mut room,
         given,
-    } = take(gate()?, &GONE)?;
+    } = perform(gate()?, &GONE)?;
     let (run, directory, gone) = (given.at(RUN), given.at(DIRECTORY), given.at(3));
     let before = room;
     let mut memory = lend!(room);
-    // A bad name and an entry that is not accepted, so that each later fault is there too.
+    // With a bad name and a bad entry, so that each later fault is there too.
     for asked in ALL {
         for (shown, denial) in denied(asked, directory, run, bench.owner)? {
             let came = refused(&bench, &mut memory, asked, shown, bad_name(asked), gone);

@@ -1,8 +1,8 @@
-//! Memory to lend, and a store over it.
+//! A store with its owner capability, and capabilities to present to it.
 use admission::Denial;
 use family::{CommutingFamily, FamilyRefusal, Powers};
-use holder::{Capability, Check, Mask, Object, Port, Rights};
-use memory::{DirectoryRecord, FileRecord, Masks, Memory, Row};
+use holder::{Capability, Check, Mask, Object, Port};
+use memory::{Masks, Memory};
 use runs::{Gate, open};
 use secret::{SETS, Secret};
 use std::test::Fail;
@@ -12,121 +12,10 @@ pub const PORT: Port = Port {
     bytes: [0x50, 0x55, 0x4d, 0x50, 0x30, 0x31],
 };
 
-/// Three file records, two directory records, their rows, and sixteen bytes.
-#[derive(Clone, Copy)]
-pub struct Room {
-    pub files: [FileRecord; 3],
-    pub directories: [DirectoryRecord; 2],
-    pub rows: [Row; 32],
-    pub area: [u8; 16],
-}
-
-/// A file that lies nowhere in the area.
-pub fn old_file() -> FileRecord {
-    FileRecord {
-        live: true,
-        secret: Secret::new(9),
-        start: 9,
-        length: 99,
-    }
-}
-
-/// A directory with more rows than there can be.
-pub fn old_directory() -> DirectoryRecord {
-    DirectoryRecord {
-        live: true,
-        secret: Secret::new(9),
-        count: 99,
-    }
-}
-
-/// The three masks of these bits.
-pub fn masks(works: u8, inspector: u8, buyer: u8) -> Masks {
-    Masks {
-        works: Mask { bits: works },
-        inspector: Mask { bits: inspector },
-        buyer: Mask { bits: buyer },
-    }
-}
-
-/// Masks through which every right is seen.
-pub const OPEN: Masks = Masks {
-    works: Mask { bits: 255 },
-    inspector: Mask { bits: 255 },
-    buyer: Mask { bits: 255 },
-};
-
-/// A row of another store, with a name of three bytes.
-pub fn old_row() -> Row {
-    Row {
-        length: 3,
-        name: [9; 24],
-        capability: Capability {
-            port: Port { bytes: [9; 6] },
-            object: Object { bytes: [9; 3] },
-            rights: Rights { bits: 9 },
-            check: Check { bytes: [9; 6] },
-        },
-        masks: masks(9, 9, 9),
-    }
-}
-
-/// Whether all that two rows hold is the same.
-pub fn are_same_rows(a: &Row, b: &Row) -> bool {
-    a.length == b.length
-        && a.name == b.name
-        && a.capability == b.capability
-        && a.masks.works == b.masks.works
-        && a.masks.inspector == b.masks.inspector
-        && a.masks.buyer == b.masks.buyer
-}
-
-impl Room {
-    /// Memory with something in it everywhere.
-    pub fn new() -> Room {
-        Room {
-            files: [old_file(); 3],
-            directories: [old_directory(); 2],
-            rows: [old_row(); 32],
-            area: [9; 16],
-        }
-    }
-
-    /// Whether all that two rooms hold is the same.
-    pub fn is_same(&self, other: &Room) -> bool {
-        let files = self.files.iter().zip(&other.files).all(|(x, y)| {
-            x.live == y.live
-                && x.secret.same(y.secret)
-                && x.start == y.start
-                && x.length == y.length
-        });
-        let directories = self.directories.iter().zip(&other.directories).all(|(x, y)| x.live
-            == y.live
-            && x.secret.same(y.secret)
-            && x.count == y.count);
-        let rows = self
-            .rows
-            .iter()
-            .zip(&other.rows)
-            .all(|(x, y)| are_same_rows(x, y));
-        files && directories && rows && self.area == other.area
-    }
-}
-
-/// Lends a room to a store: a method cannot, since one that lends four parts of what lies behind `&mut self` is not covered by the borrow checker.
-#[macro_export]
-macro_rules! lend {
-    ($room:ident) => {
-        $crate::Memory {
-            files: &mut $room.files,
-            directories: &mut $room.directories,
-            rows: &mut $room.rows,
-            area: &mut $room.area,
-        }
-    };
-}
-
-/// A store with its owner capability. Each of its calls brings a scratch of its own and promises nothing, so that a test of many calls is quick to prove.
+/// A store with its owner capability.
+///
+/// Each call brings a scratch of its own. None has a contract, so that a test of many calls is
+/// quick to prove.
 #[derive(Drop)]
 pub struct Bench<F> {
     pub store: Store<F>,
@@ -134,7 +23,7 @@ pub struct Bench<F> {
 }
 
 impl<F: CommutingFamily + Drop> Bench<F> {
-    /// A store just opened over this memory.
+    /// Opens a store over this memory.
     pub fn new(gate: Gate<F>, memory: &mut Memory) -> Result<Bench<F>, StoreRefusal> {
         let Opened { store, owner } = open(gate, memory, &mut [9; SETS])?;
         Ok(Bench { store, owner })
@@ -245,7 +134,8 @@ impl<F: CommutingFamily + Drop> Bench<F> {
         capability: Capability,
         request: Request,
     ) -> Result<Answer, StoreRefusal> {
-        self.store.serve(memory, capability, request)
+        self.store
+            .serve(memory, capability, request, &mut [9; SETS])
     }
 }
 
@@ -261,17 +151,17 @@ pub fn gate() -> Result<Gate<Powers>, FamilyRefusal> {
     })
 }
 
-/// What is left of a capability of the store of powers within a mask.
+/// The capability, thinned to a mask in the store of powers.
 pub fn thinned(capability: Capability, bits: u8) -> Result<Capability, Fail> {
     Ok(capability.thin_to(&Powers::new(MODULUS)?, Mask { bits })?)
 }
 
-/// A capability of the store of powers that is not accepted, in each way, with the denial for it.
+/// Capabilities that the store of powers does not accept, each with the denial for it.
 pub fn not_accepted(capability: Capability) -> [(Capability, Denial); 4] {
     let port = Port { bytes: [9; 6] };
-    let object = Object { bytes: [1, 0, 1] };
-    let check = Check { bytes: [0; 6] };
-    let past = Check { bytes: [255; 6] };
+    let object = Object::new(0x01_00_01).unwrap();
+    let check = Check::new(0).unwrap();
+    let past = Check::new(0xff_ff_ff_ff_ff_ff).unwrap();
     [
         (Capability { port, ..capability }, Denial::WrongPort),
         (

@@ -1,10 +1,11 @@
-//! The requests to a directory, as plain values.
+//! The requests to a directory as plain values.
+use crate::bench::Bench;
+use crate::room::OPEN;
 use admission::Denial;
 use family::Powers;
 use holder::Capability;
 use memory::Memory;
 use store::StoreRefusal;
-use store_bench::{Bench, OPEN};
 
 /// A request to a directory.
 #[derive(Clone, Copy, Debug)]
@@ -27,7 +28,7 @@ pub static ALL: [Asked; 6] = [
 ];
 
 impl Asked {
-    /// The rights of which one is asked for.
+    /// The rights of which the request needs one.
     pub fn rights(self) -> u8 {
         match self {
             Asked::Enter | Asked::Remove => 8,
@@ -35,7 +36,7 @@ impl Asked {
         }
     }
 
-    /// The place of a fault of the capability presented.
+    /// The place of a refusal of the capability presented.
     pub fn place(self) -> u8 {
         match self {
             Asked::Walk => 1,
@@ -48,7 +49,7 @@ impl Asked {
     }
 }
 
-/// Why a request for a row of a name, or for a new one where it is entered, is refused, if it is.
+/// The refusal of a request for the row of a name, or for a new one of that name, if there is one.
 pub fn refused(
     bench: &Bench<Powers>,
     memory: &mut Memory,
