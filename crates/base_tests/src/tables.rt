@@ -41,7 +41,7 @@ fn used(number: u8) -> Slot {
 /// Claims a place and gives it the number.
 fn fill(table: &mut Table<&mut [Slot]>, number: u8) -> Option<usize> {
     let place = table.claim()?;
-    table.give(place, used(number));
+    let _ = table.give(place, used(number));
     Some(place)
 }
 
@@ -62,7 +62,7 @@ fn claims_go_round(rt: HostRuntime) {
         (3, 14, None), // all are live
         (0, 15, Some(0)), // the last place given
     ] {
-        table.free(freed);
+        assert!(rt; table.free(freed) == (freed < 3), "{number}");
         assert!(rt; fill(&mut table, number) == expected, "{number}");
     }
 }
@@ -71,13 +71,25 @@ fn claims_go_round(rt: HostRuntime) {
 fn freed_records_are_not_found(rt: HostRuntime) {
     let mut slots = [used(1), used(2)];
     let mut table = Table::new(&mut slots[..]);
-    table.free(1);
-    table.put(0, used(7));
-    table.put(2, used(8));
+    assert!(rt; table.free(1));
+    assert!(rt; number_at(&table, 0) == Some(1));
+    assert!(rt; table.put(0, used(7)));
+    assert!(rt; !table.put(2, used(8)));
     for (place, expected) in [(0, Some(7)), (1, None), (2, None)] {
         assert!(rt; number_at(&table, place) == expected, "{place}");
     }
     assert!(rt; slots[1].number == 2, "the blank keeps its number");
+}
+
+#[test]
+fn places_out_of_range(rt: HostRuntime) {
+    let mut slots = [FREE; 1];
+    let mut table = Table::new(&mut slots[..]);
+    assert!(rt; number_at(&table, 1).is_none());
+    assert!(rt; !table.give(1, used(1)));
+    assert!(rt; !table.put(1, used(1)));
+    assert!(rt; !table.free(1));
+    assert!(rt; fill(&mut table, 5) == Some(0), "nothing was given before");
 }
 
 #[test]

@@ -28,7 +28,7 @@ impl Places {
         ensures next { self.new.next ≡ place + 1 }
     {
         let mut table = Table::resume(records, self.next);
-        table.give(place, record);
+        let _ = table.give(place, record);
         self.next = table.next();
     }
 
@@ -37,7 +37,7 @@ impl Places {
         ensures { records.new ≡ slice_set records.old place «record» }
     {
         let mut table = Table::resume(records, self.next);
-        table.put(place, record);
+        let _ = table.put(place, record);
     }
 
     /// Frees the record at a place.
@@ -45,6 +45,6 @@ impl Places {
         ensures { records.new ≡ with_freed R.blank_of records.old place }
     {
         let mut table = Table::resume(records, self.next);
-        table.free(place);
+        let _ = table.free(place);
     }
 }

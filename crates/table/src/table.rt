@@ -1,6 +1,6 @@
 //! A table over a lent slice of records.
 ghost use Rattle.table.specs.Table.{IsClaimedPlace, IsLiveRecord, IsFreed, claim_after, claimed_place, live_record, with_freed};
-ghost use Rattle.std.specs.Prelude.{◌≡◌, ◌<◌, IfSome, length, not, position, slice_set};
+ghost use Rattle.std.specs.Prelude.{◌≡◌, ◌<◌, IfSome, length, nat_lt, not, position, slice_set};
 
 use crate::lent::Lent;
 use crate::record::Record;
@@ -72,44 +72,52 @@ impl<S: Lent> Table<S> {
     }
 }
 
-/// Changes the records. Each clause `lender` says that the table still borrows the same slice.
+/// Changes the records, and returns whether there is such a place. Each clause `lender` says that
+/// the table still borrows the same slice.
 impl<R: Record> Table<&mut [R]> {
     /// Writes a record at a claimed place. The next claim begins behind it. Beyond the end nothing
     /// changes.
-    pub fn give(&mut self, place: usize, value: R)
+    pub fn give(&mut self, place: usize, value: R) -> bool
+        ensures there { result ≡ nat_lt place (length self.old.records.now) }
         ensures records { self.new.records.now ≡ slice_set self.old.records.now place value }
         ensures next { self.new.next
             ≡ claim_after (length self.old.records.now) place self.old.next }
         ensures lender { self.new.records.ghost_name ≡ self.old.records.ghost_name }
     {
-        if place < self.records.len() {
-            self.put(place, value);
+        let given = self.put(place, value);
+        if given {
             self.next = place + 1;
         }
+        given
     }
 
     /// Replaces the record at a place. Beyond the end nothing changes.
-    pub fn put(&mut self, place: usize, value: R)
+    pub fn put(&mut self, place: usize, value: R) -> bool
+        ensures there { result ≡ nat_lt place (length self.old.records.now) }
         ensures records { self.new.records.now ≡ slice_set self.old.records.now place value }
         ensures next { self.new.next ≡ self.old.next }
         ensures lender { self.new.records.ghost_name ≡ self.old.records.ghost_name }
     {
         // By an index: after a slice's `get_mut` a proof knows no element.
-        if place < self.records.len() {
+        let there = place < self.records.len();
+        if there {
             self.records[place] = value;
         }
+        there
     }
 
     /// Frees the record at a place. Beyond the end nothing changes.
-    pub fn free(&mut self, place: usize)
+    pub fn free(&mut self, place: usize) -> bool
+        ensures there { result ≡ nat_lt place (length self.old.records.now) }
         ensures records { self.new.records.now ≡ with_freed R.blank_of self.old.records.now place }
         ensures words { IsFreed R.is_live self.old.records.now self.new.records.now place }
         ensures next { self.new.next ≡ self.old.next }
         ensures lender { self.new.records.ghost_name ≡ self.old.records.ghost_name }
     {
-        if place < self.records.len() {
-            let blank = self.records[place].blank();
-            self.put(place, blank);
+        if place >= self.records.len() {
+            return false;
         }
+        let blank = self.records[place].blank();
+        self.put(place, blank)
     }
 }
