@@ -1,11 +1,11 @@
 -- Without capitals, what the crate `hex` decodes is what `read_hex` reads.
-use Rattle.std.proofs.Common.{◌≡◌, ℕ, ◌+◌, ◌-◌, ◌*◌, ◌%◌, ◌&&◌, ◌||◌, Bool, true, false, cond, eqb, List, [], ◌∷◌, length, Some, None, Result, Ok, Err, refl, ap, sym, ◌∙◌, inl, inr, arith}
-use Rattle.std.proofs.lemmas.Bool.{and_parts, cases_Bool, cases_eq, eqb-true, eqb-false, or_parts}
+use Rattle.std.proofs.Common.{◌≡◌, ℕ, ◌+◌, ◌-◌, ◌*◌, ◌%◌, ◌&&◌, Bool, true, false, cond, eqb, List, [], ◌∷◌, length, Some, None, Result, Ok, Err, refl, ap, sym, ◌∙◌, inl, inr, arith}
+use Rattle.std.proofs.lemmas.Bool.{cases_Bool, cases_eq, eqb-true, eqb-false, or_parts}
 use Rattle.std.proofs.lemmas.Bool.Decides.{nat_tests}
 use Rattle.std.specs.Char.{is_ascii_uppercase}
 use Rattle.std.specs.List.{list_all, list_any}
-use Rattle.std.specs.Option.{option_map}
-use Rattle.std.specs.Result.{result_ok}
+use Rattle.std.specs.Option.{MatchOption, option_map}
+use Rattle.std.specs.Result.{MatchResult, result_ok}
 use Rattle.hex.specs.Hex.{decode_pairs, decode_sized, hex_digit_value, pair_value}
 use Rattle.hex.proofs.HexLemmas.{decode_sized-odd, decode_sized-other}
 use Rattle.hex.proofs.Pairs.{cons_byte, decode_pairs-err_pair, decode_pairs-ok_pair, decode_sized-pairs}
@@ -20,20 +20,6 @@ digit_reads c h d = grind (arith, nat_tests)
 digit_fails : (c : ℕ) → is_ascii_uppercase c ≡ false → is_hex_digit c ≡ false
     → hex_digit_value c ≡ None
 digit_fails c h d = grind (arith, nat_tests)
-
-capital_fails : (c : ℕ) → is_ascii_uppercase c ≡ true → is_hex_digit c ≡ false
-capital_fails c h = grind (arith, nat_tests)
-
-digit_small : (c : ℕ) → is_hex_digit c ≡ true → is_ascii_uppercase c ≡ false
-digit_small c d = grind (arith, nat_tests)
-
--- a word of digits has no capitals
-pub no_capitals : (word : List ℕ) → list_all is_hex_digit word ≡ true
-    → list_any is_ascii_uppercase word ≡ false
-no_capitals [] h = refl
-no_capitals (c ∷ cs) h =
-    let parts = and_parts _ _ h in
-    ap (λ b. b || list_any is_ascii_uppercase cs) (digit_small c parts.0) ∙ no_capitals cs parts.1
 
 -- a byte in front of what is read
 front : (here : Bool) (byte : ℕ) (bytes : List ℕ) (r : Result (List ℕ) FromHexError) →
@@ -109,3 +95,11 @@ decoded_read n word small =
                 (decode_sized-other word n (omega arith) (λ half. differs (omega arith))) ∙ none
           ]
     ]
+
+-- where decoding into a slice ends well, the slice holds what is decoded
+pub decoded_into : (d : Result (List ℕ) FromHexError) (r : Result (Unit {0}) FromHexError)
+    (out : List ℕ)
+    → MatchResult d (λ bytes. (r ≡ Ok tt) × (out ≡ bytes)) (λ e. r ≡ Err e)
+    → MatchOption (result_ok r) (None ≡ result_ok d) (λ _. Some out ≡ result_ok d)
+decoded_into (Ok bytes) r out h = rw h.0 (ap (λ x. Some x) h.1)
+decoded_into (Err why) r out h = rw h refl

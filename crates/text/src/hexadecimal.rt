@@ -1,22 +1,42 @@
 //! Bytes as hexadecimal digits in small letters, two digits to a byte, the high one first.
-ghost use Rattle.std.specs.Prelude.{◌≡◌, ℕ, List, [], ◌∷◌, length, Some};
+ghost use Rattle.std.specs.Char.{is_ascii_uppercase};
+ghost use Rattle.std.specs.List.{list_any};
+ghost use Rattle.std.specs.Prelude.{◌≡◌, ℕ, ◌*◌, List, [], ◌∷◌, false, length, Some};
 ghost use Rattle.std.specs.Fmt.{WritesOnOk};
 ghost use Rattle.text.specs.Hex.{hex_text, read_hex};
 ghost use Rattle.text.specs.Put.{buffer_after, end_of};
 
-use hex::FromHex;
 use std::fmt;
+
+/// The `N` bytes that a word without capitals stands for. The kit would take capitals.
+fn decode<const N: usize>(word: &[u8]) -> Option<[u8; N]>
+    requires { list_any is_ascii_uppercase word.now ≡ false }
+    ensures { result ≡ read_hex N word.now }
+{
+    let mut bytes = [0; N];
+    hex::decode_to_slice(word, &mut bytes).ok()?;
+    Some(bytes)
+}
 
 /// The `N` bytes that exactly `2 * N` small hexadecimal digits stand for. Any other word is None.
 pub fn read_hex<const N: usize>(word: &[u8]) -> Option<[u8; N]>
     ensures bytes { result ≡ read_hex N word.now }
     ensures same_word { (bytes : List ℕ) → result ≡ Some bytes → hex_text bytes ≡ word.now }
 {
-    // `from_hex` would take capitals.
-    if word.iter().any(u8::is_ascii_uppercase) {
+    // The length comes first, so a long word is refused without a look at its digits.
+    if word.len() / 2 != N || word.iter().any(u8::is_ascii_uppercase) {
         return None;
     }
-    <[u8; N]>::from_hex(word).ok()
+    decode::<N>(word)
+}
+
+/// Writes the digits of the bytes over a part that has room for just these.
+fn encode(bytes: &[u8], part: &mut [u8])
+    requires { length part.old ≡ 2 * length bytes.now }
+    ensures { part.new ≡ hex_text bytes.now }
+{
+    // It fails only where the part has another length than the digits.
+    hex::encode_to_slice(bytes, part).unwrap();
 }
 
 /// Writes two small hexadecimal digits for each byte, as `put` writes bytes.
@@ -30,8 +50,7 @@ pub fn put_hex(out: &mut [u8], at: usize, bytes: &[u8]) -> Option<usize>
     let end = at
         .checked_add(2 * bytes.len())
         .filter(|end| *end <= out.len())?;
-    // It fails only where the slice has another length than the digits.
-    hex::encode_to_slice(bytes, &mut out[at..end]).unwrap();
+    encode(bytes, &mut out[at..end]);
     Some(end)
 }
 

@@ -5,7 +5,6 @@ use Rattle.std.proofs.lemmas.Slice.{put_mid-paste}
 use Rattle.text.specs.Hex.{hex_text}
 use Rattle.text.specs.Put.{end_of}
 use Rattle.text.proofs.Chosen.{chosen}
-use Rattle.text.proofs.Encoded.{encode_lower-hex_text}
 use Rattle.text.proofs.Pairs.{length-hex_text, written_read}
 use Rattle.text.proofs.hexadecimal.put_hex.Goals as goal
 
@@ -25,8 +24,7 @@ returns c =
     let at = c.args.at in
     let bytes = c.args.bytes.now in
     let size = length-hex_text bytes in
-    let text = encode_lower-hex_text bytes (λ i. omega (arith, c.type_inv.bytes i)) in
-    let written : c.encode_to_slice.new.output ≡ hex_text bytes = search rules in
+    let written = c.encode.ensures in
     let gives : Some c.in_ok-end.end ≡ end_of out at (hex_text bytes) = search rules in
     let room = chosen _ _ _ gives in
     let end = room.1 in
