@@ -9,4 +9,4 @@ mod target;
 pub use error::Denial;
 pub use gate::Gate;
 pub use need::{Kinds, Need};
-pub use target::Target;
+pub use target::{Target, locate};

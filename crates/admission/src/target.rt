@@ -30,7 +30,7 @@ impl Target {
 }
 
 /// The live object with a number, if there is one.
-pub(crate) fn locate(memory: &Memory, object: Object) -> Option<Target>
+pub fn locate(memory: &Memory, object: Object) -> Option<Target>
     ensures { result ≡ target_at (content memory.now) object.value }
 {
     let number = object.number();

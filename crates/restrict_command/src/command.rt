@@ -23,7 +23,7 @@ fn thin_in<F: CommutingFamily>(family: &F, restriction: Restriction) -> Result<C
 }
 
 /// The capability that is left, or the refusal.
-fn carry_out(restriction: Restriction) -> Result<Capability, Refusal>
+pub fn carry_out(restriction: Restriction) -> Result<Capability, Refusal>
     ensures { result ≡ rest_of restriction }
 {
     match restriction.family {

@@ -9,7 +9,8 @@ mod restriction;
 mod tests;
 mod words;
 
-pub use command::restrict_words;
+pub use command::{carry_out, restrict_words};
 pub use error::{Failure, Misuse};
-pub use report::Report;
+pub use report::{Listed, Report};
+pub use restriction::Restriction;
 pub use words::Words;

@@ -9,8 +9,8 @@ use text::Hex;
 
 /// The rights in a set, by number.
 #[derive(Clone, Copy, PartialEq, Eq, Debug)]
-pub(crate) struct Listed {
-    pub(crate) set: u8,
+pub struct Listed {
+    pub set: u8,
 }
 
 impl fmt::Display for Listed {

@@ -4,9 +4,9 @@ use holder::{Capability, Mask};
 
 /// The four words, read.
 #[derive(Clone, Copy, PartialEq, Eq, Debug)]
-pub(crate) struct Restriction {
-    pub(crate) family: FamilyKind,
-    pub(crate) modulus: u64,
-    pub(crate) capability: Capability,
-    pub(crate) mask: Mask,
+pub struct Restriction {
+    pub family: FamilyKind,
+    pub modulus: u64,
+    pub capability: Capability,
+    pub mask: Mask,
 }

@@ -29,7 +29,7 @@ pub struct Words<'a> {
 
 impl Words<'_> {
     /// The restriction that the words name, or the first word that cannot be read.
-    pub(crate) fn read(self) -> Result<Restriction, Misuse>
+    pub fn read(self) -> Result<Restriction, Misuse>
         ensures { result
             ≡ restriction_in self.entry.letter.now self.entry.modulus.now
             self.entry.capability.now self.entry.mask.now }
