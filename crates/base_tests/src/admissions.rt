@@ -20,30 +20,58 @@ const TO_READ: Need = Need {
     rights: 1,
 };
 
-/// Files, under right 0 or 1.
+/// Files, under right 1.
 const TO_SIZE: Need = Need {
+    kinds: FILES,
+    rights: 2,
+};
+
+/// Files, under right 0 or 1.
+const ONE_OF_TWO: Need = Need {
     kinds: FILES,
     rights: 3,
 };
 
-/// Files and directories, under right 7.
+/// Files and directories, under right 4.
 const TO_DESTROY: Need = Need {
     kinds: Kinds {
         store: false,
         files: true,
         directories: true,
     },
-    rights: 128,
+    rights: 16,
 };
 
-/// The store alone, under right 2.
+/// The store alone, under right 0.
 const TO_FILE: Need = Need {
     kinds: Kinds {
         store: true,
         files: false,
         directories: false,
     },
+    rights: 1,
+};
+
+/// Files and directories, under right 7, which no request asks.
+const UNDER_RIGHT_7: Need = Need {
+    rights: 128,
+    ..TO_DESTROY
+};
+
+/// The store alone, under right 2.
+const UNDER_RIGHT_2: Need = Need {
     rights: 4,
+    ..TO_FILE
+};
+
+/// Any object, under right 5.
+const TO_REVOKE: Need = Need {
+    kinds: Kinds {
+        store: true,
+        files: true,
+        directories: true,
+    },
+    rights: 32,
 };
 
 /// Why the capability is denied, if it is.
@@ -91,9 +119,11 @@ fn objects_and_checks(rt: HostRuntime) -> Result<(), Fail> {
     };
     for (need, presented, expected) in [
         (TO_FILE, capability(0, 255, 2), None),
+        (UNDER_RIGHT_2, capability(0, 255, 2), None),
         (TO_READ, capability(1, 255, 3), None),
         (TO_READ, capability(2, 255, 3), Some(Denial::NoSuchObject)), // a free place
         (TO_DESTROY, capability(3, 255, 5), None),
+        (UNDER_RIGHT_7, capability(3, 255, 5), None),
         (
             TO_DESTROY,
             capability(4, 255, 5),
@@ -114,9 +144,11 @@ fn kinds_before_rights(rt: HostRuntime) -> Result<(), Fail> {
     for (need, presented, expected) in [
         (TO_DESTROY, capability(0, 255, 2), Some(Denial::WrongKind)),
         (TO_SIZE, capability(3, 255, 5), Some(Denial::WrongKind)),
+        (TO_REVOKE, capability(0, 255, 2), None),
         (TO_READ, capability(1, 0, 3), Some(Denial::WrongCheck)), // rights that were not dropped
         (TO_READ, capability(1, 254, 41), Some(Denial::RightMissing)),
-        (TO_SIZE, capability(1, 254, 41), None), // one of two rights
+        (TO_SIZE, capability(1, 254, 41), None),
+        (ONE_OF_TWO, capability(1, 254, 41), None),
         (TO_READ, capability(3, 254, 95), Some(Denial::WrongKind)), // the kind is tested first
     ] {
         let denial = denied(need, presented)?;

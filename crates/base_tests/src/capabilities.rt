@@ -73,6 +73,16 @@ fn thinning(rt: HostRuntime) -> Result<(), Fail> {
 }
 
 #[test]
+fn thinning_twice(rt: HostRuntime) -> Result<(), Fail> {
+    let powers = Powers::new(2_147_483_647)?;
+    let owner = capability(65, 255, 16_807);
+    let some = owner.thin_to(&powers, Mask { bits: 0x3c })?;
+    let less = some.thin_to(&powers, Mask { bits: 0x0f })?;
+    assert!(rt; less == owner.thin_to(&powers, Mask { bits: 0x0c })?);
+    Ok(())
+}
+
+#[test]
 fn refusals_as_plain_values(rt: HostRuntime) {
     for (e, number) in [
         (HolderRefusal::WrongLength, 5),

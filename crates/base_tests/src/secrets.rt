@@ -76,6 +76,12 @@ fn owners(rt: HostRuntime) -> Result<(), Fail> {
 }
 
 #[test]
+fn secrets_compare_by_their_numbers(rt: HostRuntime) {
+    assert!(rt; Secret::new(5) == Secret::new(5));
+    assert!(rt; Secret::new(5) != Secret::new(6));
+}
+
+#[test]
 fn acceptance(rt: HostRuntime) -> Result<(), Fail> {
     let powers = Powers::new(3413)?;
     let whole = owner(2).ok_or("no owner")?;
