@@ -1,6 +1,6 @@
 -- Without capitals, what the crate `hex` decodes is what `read_hex` reads.
-use Rattle.std.proofs.Common.{◌≡◌, ℕ, ◌+◌, ◌-◌, ◌*◌, ◌%◌, ◌&&◌, Bool, true, false, cond, eqb, List, [], ◌∷◌, length, Some, None, Result, Ok, Err, refl, ap, sym, ◌∙◌, inl, inr, arith}
-use Rattle.std.proofs.lemmas.Bool.{cases_Bool, cases_eq, eqb-true, eqb-false, or_parts}
+use Rattle.std.proofs.Common.{◌≡◌, ℕ, ◌+◌, ◌-◌, ◌*◌, ◌%◌, ◌&&◌, ◌||◌, Bool, true, false, cond, eqb, List, [], ◌∷◌, length, Some, None, Result, Ok, Err, refl, ap, sym, ◌∙◌, inl, inr, arith}
+use Rattle.std.proofs.lemmas.Bool.{and_parts, cases_Bool, cases_eq, eqb-true, eqb-false, or_parts}
 use Rattle.std.proofs.lemmas.Bool.Decides.{nat_tests}
 use Rattle.std.specs.Char.{is_ascii_uppercase}
 use Rattle.std.specs.List.{list_all, list_any}
@@ -20,6 +20,17 @@ digit_reads c h d = grind (arith, nat_tests)
 digit_fails : (c : ℕ) → is_ascii_uppercase c ≡ false → is_hex_digit c ≡ false
     → hex_digit_value c ≡ None
 digit_fails c h d = grind (arith, nat_tests)
+
+digit_small : (c : ℕ) → is_hex_digit c ≡ true → is_ascii_uppercase c ≡ false
+digit_small c d = grind (arith, nat_tests)
+
+-- a word of digits has no capitals
+pub no_capitals : (word : List ℕ) → list_all is_hex_digit word ≡ true
+    → list_any is_ascii_uppercase word ≡ false
+no_capitals [] h = refl
+no_capitals (c ∷ cs) h =
+    let parts = and_parts _ _ h in
+    ap (λ b. b || list_any is_ascii_uppercase cs) (digit_small c parts.0) ∙ no_capitals cs parts.1
 
 -- a byte in front of what is read
 front : (here : Bool) (byte : ℕ) (bytes : List ℕ) (r : Result (List ℕ) FromHexError) →

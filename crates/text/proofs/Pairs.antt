@@ -1,6 +1,6 @@
 -- Two hexadecimal digits to a byte, there and back.
-use Rattle.std.proofs.Common.{◌≡◌, ℕ, suc, ◌+◌, ◌-◌, ◌*◌, ◌/◌, ◌%◌, ◌<◌, true, List, [], ◌∷◌, length, get_or, Some, Option, sym, refl, ap, ◌∙◌, arith}
-use Rattle.std.proofs.lemmas.Bool.{and_parts, and_from, eq-eqb, eqb-true, cond-true}
+use Rattle.std.proofs.Common.{◌≡◌, ℕ, suc, ◌+◌, ◌-◌, ◌*◌, ◌/◌, ◌%◌, ◌<◌, true, ◌&&◌, eqb, List, [], ◌∷◌, length, get_or, Some, None, Option, sym, refl, ap, ◌∙◌, inl, inr, arith}
+use Rattle.std.proofs.lemmas.Bool.{and_parts, and_from, eq-eqb, eqb-true, cond-true, cond-false, cases_Bool}
 use Rattle.std.proofs.lemmas.Bool.Decides.{nat_tests}
 use Rattle.std.specs.List.{list_all}
 use Rattle.text.proofs.Chosen.{chosen}
@@ -67,3 +67,12 @@ read_written n word r gives bs e =
     let parts = chosen _ (hex_bytes word) bs (sym e ∙ gives) in
     let tests = and_parts _ _ parts.0 in
     ap hex_text (sym parts.1) ∙ hex_text-hex_bytes word n (eqb-true _ _ tests.0) tests.1
+
+-- where a word is not read
+pub unread : (n : ℕ) (word : List ℕ) → (length word ≡ 2 * n → list_all is_hex_digit word ≡ true → ⊥)
+    → None ≡ read_hex n word
+unread n word h =
+    elim (cases_Bool (eqb (length word) (2 * n) && list_all is_hex_digit word)) [
+      | inl holds ↦ let tests = and_parts _ _ holds in absurd (h (eqb-true _ _ tests.0) tests.1)
+      | inr fails ↦ sym (cond-false _ _ _ fails)
+    ]
